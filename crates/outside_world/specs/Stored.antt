@@ -8,17 +8,18 @@ pub record PartlyRead : Type 0 where
   pub given : List ℕ
   pub left : List ℕ
 
--- a source in memory
+-- a source in memory, and which of its reads fail
 pub record SourceState : Type 0 where
-  pub bytes : PartlyRead
+  pub given : List ℕ
+  pub left : List ℕ
   pub plan : FaultPlan
 
--- a sink in memory
+-- a sink in memory, and which of its writes fail
 pub record SinkState : Type 0 where
   pub written : List ℕ
   pub plan : FaultPlan
 
--- files in memory: names with their texts, the newest first
+-- files in memory: names with their texts, the newest first, and which reads fail
 pub record FilesState : Type 0 where
   pub texts : List (List ℕ × List ℕ)
   pub plan : FaultPlan

@@ -70,14 +70,14 @@ impl Model for MemSource {
 
     ghost Value = { SourceState };
 
-    ghost view = { λ s. record { bytes = s.bytes; plan = s.plan } };
+    ghost view = { λ s. record { given = s.bytes.given; left = s.bytes.left; plan = s.plan } };
 }
 
 impl MemSource {
     /// A source whose reads with these numbers fail, from 0.
     pub fn make(alloc: Global, bytes: &[u8], fails: &[u64]) -> Result<MemSource, NoMemory>
-        ensures given { IfOk result (λ s. s.bytes.given ≡ []) }
-        ensures left { IfOk result (λ s. s.bytes.left ≡ bytes.now) }
+        ensures given { IfOk result (λ s. s.given ≡ []) }
+        ensures left { IfOk result (λ s. s.left ≡ bytes.now) }
         ensures plan { IfOk result (λ s. s.plan ≡ fresh_plan fails.now) }
     {
         Ok(MemSource {
@@ -90,9 +90,9 @@ impl MemSource {
 impl Source for MemSource {
     ghost use Rattle.std.specs.Prelude.{Some};
 
-    ghost given = { λ s. Some s.bytes.given };
+    ghost given = { λ s. Some s.given };
 
-    ghost left = { λ s. Some s.bytes.left };
+    ghost left = { λ s. Some s.left };
 
     ghost read_count = { λ s. s.plan.faults };
 
