@@ -1,5 +1,5 @@
 -- Which calls of an object in memory fail.
-use Rattle.std.specs.Prelude.{◌≡◌, ◌↔◌, ℕ, ◌+◌, ◌-◌, ◌^◌, ◌==◌, min, Bool, IsTrue, if◌then◌else◌, List, [], Option, Some, None}
+use Rattle.std.specs.Prelude.{◌↔◌, ℕ, ◌+◌, ◌-◌, ◌^◌, ◌==◌, min, Bool, IsTrue, if◌then◌else◌, List, Option, Some, None}
 use Rattle.std.specs.List.{list_any}
 use Rattle.std.specs.Option.{option_map}
 
