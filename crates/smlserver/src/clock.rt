@@ -32,6 +32,10 @@ impl<'a, R: std::rt::Clock> RealClock<'a, R> {
 impl<R: std::rt::Clock> Clock for RealClock<'_, R> {
     ghost readings = { λ _. None };
 
+    ghost Kept = { Unit {0} };
+
+    ghost kept = { λ _. tt };
+
     fn now(&mut self) -> u64 {
         self.reading()
     }

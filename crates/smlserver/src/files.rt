@@ -85,6 +85,10 @@ impl<R: std::rt::Files> Files for RealFiles<'_, R> {
 
     ghost file_count = { λ f. f.faults };
 
+    ghost Kept = { Unit {0} };
+
+    ghost kept = { λ _. tt };
+
     fn read_file(&mut self, name: &Text, most: u64) -> Result<Text, FileRefusal> {
         let result = self.read_named(name, most);
         self.is_project_read = true;

@@ -34,6 +34,10 @@ impl<R: Read + Drop> Source for StreamSource<R> {
 
     ghost read_count = { λ s. s.faults };
 
+    ghost Kept = { Unit {0} };
+
+    ghost kept = { λ _. tt };
+
     fn read(&mut self, piece: &mut [u8]) -> Result<usize, Failed> {
         match self.reader.read(piece) {
             Ok(n) => Ok(n),
@@ -82,6 +86,10 @@ impl<W: Write + Drop> Sink for StreamSink<W> {
     ghost written = { λ _. None };
 
     ghost write_count = { λ k. k.faults };
+
+    ghost Kept = { Unit {0} };
+
+    ghost kept = { λ _. tt };
 
     fn write(&mut self, piece: &[u8]) -> Result<usize, WriteRefusal> {
         match self.writer.write(piece) {

@@ -13,7 +13,7 @@ pub const VERSION: &str = "smlserver 0.1.0 (rattle-kit-13b logic dac8208d650f15b
 pub const USAGE: &str = "smlserver: web pages by scripts in Standard ML
 
 Usage:
-  smlserver page PROJECT PATH QUERY   writes the page at PATH, as a GET with QUERY asks for it
+  smlserver page PROJECT PATH QUERY   writes the page at PATH; QUERY is empty (\"\") so far
   smlserver --help                    writes this text
   smlserver --version                 writes the version
 
