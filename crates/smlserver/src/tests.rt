@@ -70,36 +70,26 @@ impl Write for Narrow<'_> {
     }
 }
 
-// A page that was held back is written at the end, and the status says where that fails.
+fn with_room(taken: &mut Vec<u8>, room: usize) -> Narrow<'_> {
+    Narrow { taken, room }
+}
+
+// What was held back is written at the end, and a piece as long as the buffer at once. The count and the
+// status say where that fails.
 #[test]
 fn writes_a_stream(rt: HostRuntime) -> Result<(), Fail> {
     let alloc = rt.alloc();
     for (room, status, held) in [(3, 0, "abc"), (2, 4, "ab")] {
         let mut taken = Vec::new(alloc);
-        let narrow = Narrow {
-            taken: &mut taken,
-            room,
-        };
-        let mut output = StreamSink::make(alloc, narrow)?;
+        let mut output = StreamSink::make(alloc, with_room(&mut taken, room))?;
         assert_eq!(rt; print_text(&mut output, "abc"), 0);
         assert_eq!(rt; output.finish(0), status);
         assert_eq!(rt; output.write_faults(), u64::from(status / 4));
         drop(output);
         assert_eq!(rt; taken.as_slice(), held.as_bytes());
     }
-    Ok(())
-}
-
-// A piece as long as the buffer goes to the writer at once, and is refused by it.
-#[test]
-fn refuses_a_long_piece(rt: HostRuntime) -> Result<(), Fail> {
-    let alloc = rt.alloc();
     let mut taken = Vec::new(alloc);
-    let narrow = Narrow {
-        taken: &mut taken,
-        room: 0,
-    };
-    let mut output = StreamSink::make(alloc, narrow)?;
+    let mut output = StreamSink::make(alloc, with_room(&mut taken, 0))?;
     assert_eq!(rt; output.write(&[b'a'; 8192]), Err(WriteRefusal::Failed));
     assert_eq!(rt; output.write_faults(), 1);
     Ok(())
