@@ -1,0 +1,41 @@
+// What the program says of itself.
+ghost use Rattle.std.specs.Prelude.{◌≡◌};
+ghost use Rattle.outside_world.specs.Told.{Rose, grown};
+
+use crate::NO_MEMORY;
+use crate::streams::WRITE_FAULT;
+use outside_world::{Sink, WriteRefusal, write_all};
+
+/// What `--version` prints: the program's version, and the toolchain that it was proved with.
+pub const VERSION: &str = "smlserver 0.1.0 (rattle-kit-13b logic dac8208d650f15bf)\n";
+
+/// What `--help` prints.
+pub const USAGE: &str = "smlserver: web pages by scripts in Standard ML
+
+Usage:
+  smlserver page PROJECT PATH QUERY   writes the page at PATH; QUERY is empty (\"\") so far
+  smlserver --help                    writes this text
+  smlserver --version                 writes the version
+
+PROJECT is the name of a project file: the line `smlserver 1` and a line
+`script PATH FILE`. FILE lies in the folder of the project file.
+
+Exit statuses:
+  0  the page was written
+  2  the words are none of the above; `bad words` was written
+  3  the project or its script was refused; a line `refused FILE PLACE NAME` was written
+  4  a write failed
+  7  memory was wanting
+";
+
+/// Writes a text. The answer is the program's status.
+pub fn print_text<K: Sink>(output: &mut K, text: &str) -> u8
+    ensures ok { result ≡ 0 → K.written output.new ≡ grown (K.written output.old) text.now }
+    ensures failed { result ≡ WRITE_FAULT → Rose (K.write_count output.old) (K.write_count output.new) }
+{
+    match write_all(output, text.as_bytes()) {
+        Ok(()) => 0,
+        Err(WriteRefusal::Failed) => WRITE_FAULT,
+        Err(WriteRefusal::NoMemory) => NO_MEMORY,
+    }
+}
