@@ -1,0 +1,5 @@
+//! The commands of the server, from words to a status.
+#![tactic(auto)]
+
+mod compile;
+mod part;
