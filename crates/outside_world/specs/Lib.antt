@@ -1,0 +1,3 @@
+pub mod Told
+pub mod FaultPlan
+pub mod Stored
