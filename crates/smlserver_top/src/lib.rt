@@ -2,4 +2,12 @@
 #![tactic(auto)]
 
 mod compile;
+mod page;
 mod part;
+mod project;
+mod run;
+mod script;
+mod spelling;
+mod words;
+
+pub use run::run_words;
