@@ -13,7 +13,7 @@ use Rattle.smlserver_top.specs.Spelling.{is_blank, AreBlanks, Spaced}
 use Rattle.smlserver_top.specs.Script.{quoted, IsLiteral, PartTokens, JoinedTokens, ArgTokens, Alone, Between, WritesParts}
 use Rattle.smlserver_top.specs.Reading.{without_blanks, after, token_at, tokens_at, ◌>>=◌, with_front, text_end, text_at, number_at, product_at, plain_or, part_at, with_parts, go_on, joined_at, closed, alone, arg_from, arg_at, blank_first, if_end, head_at, parts_of_script}
 use Rattle.smlserver_top.specs.Found.{Gives}
-use Rattle.smlserver_top.proofs.Steps.{chosen, not_true, split_and, bind_some, then_some, same_found}
+use Rattle.smlserver_top.proofs.Options.{chosen, not_true, split_and, bind_some, then_some, same_found}
 use Rattle.smlserver_top.proofs.Spacing.{without_blanks-append, token_takes, token_again, tokens_take, tokens_again, solid_again, solid_front, only_blanks, blanks_only, other_token}
 use Rattle.smlserver_top.proofs.Literals.{number_takes, number_again}
 

@@ -1,5 +1,5 @@
 pub mod Tokens
-pub mod Steps
+pub mod Options
 pub mod Spacing
 pub mod Literals
 pub mod Parents
@@ -8,3 +8,4 @@ pub mod JoinedLaws
 pub mod Grammar
 pub mod Bounds
 pub mod PageLaws
+pub mod Refusals

@@ -8,7 +8,7 @@ use Rattle.smlserver_top.specs.Reading.{after}
 use Rattle.smlserver_top.specs.Spelling.{begins_with}
 use Rattle.smlserver_top.specs.Project.{is_path, is_file_byte, has_parent, is_file_name, IsLineEnd, IsProject}
 use Rattle.smlserver_top.specs.Lines.{is_line_end, first_lines, name_split, named, script_file}
-use Rattle.smlserver_top.proofs.Steps.{chosen, split_and, bind_some, after-append, after_is, then_some}
+use Rattle.smlserver_top.proofs.Options.{chosen, split_and, bind_some, after-append, after_is, then_some}
 
 split_step : (b : ℕ) (text : List ℕ) (r : Bool) → text ≡ (name_split text).0 ++ (name_split text).1 → b ∷ text ≡ (cond {A = List ℕ × List ℕ} r (b ∷ (name_split text).0, (name_split text).1) ([], b ∷ text)).0 ++ (cond {A = List ℕ × List ℕ} r (b ∷ (name_split text).0, (name_split text).1) ([], b ∷ text)).1
 split_step b text true e = ap (λ t. b ∷ t) e

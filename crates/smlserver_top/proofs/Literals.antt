@@ -11,7 +11,7 @@ use Rattle.std.proofs.lemmas.Str.Parse.{digit_from_value}
 use Rattle.smlserver_top.specs.Spelling.{is_blank, AreBlanks, Spaced}
 use Rattle.smlserver_top.specs.Script.{IsLiteral}
 use Rattle.smlserver_top.specs.Reading.{without_blanks, digit_split, number_in, number_at}
-use Rattle.smlserver_top.proofs.Steps.{chosen, split_and, same_found}
+use Rattle.smlserver_top.proofs.Options.{chosen, split_and, same_found}
 use Rattle.smlserver_top.proofs.Spacing.{front_blanks, without_blanks-append, IsSolid, solid_front}
 
 le_true : (a b : ℕ) → nat_le a b ≡ true → a ≤ b

@@ -7,7 +7,7 @@ use Rattle.std.proofs.lemmas.Bool.{eqb-true}
 use Rattle.smlserver_top.specs.Project.{has_parent}
 use Rattle.smlserver_top.specs.Lines.{ends_part, parent_first, parent_later}
 use Rattle.smlserver_top.specs.Reading.{after}
-use Rattle.smlserver_top.proofs.Steps.{chosen, split_and, not_true}
+use Rattle.smlserver_top.proofs.Options.{chosen, split_and, not_true}
 
 abbrev is_slash : ℕ → Bool
 is_slash b = b == 47

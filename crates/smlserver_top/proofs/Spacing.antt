@@ -4,7 +4,7 @@ use Rattle.std.specs.Prelude.{◌==◌}
 use Rattle.std.specs.List.{list_all}
 use Rattle.smlserver_top.specs.Spelling.{is_blank, AreBlanks, Spaced}
 use Rattle.smlserver_top.specs.Reading.{without_blanks, after, token_at, tokens_at, ◌>>=◌}
-use Rattle.smlserver_top.proofs.Steps.{split_and, bind_some, after-append, after_is, then_some}
+use Rattle.smlserver_top.proofs.Options.{split_and, bind_some, after-append, after_is, then_some}
 
 -- blanks at the front
 front_step : (b : ℕ) (text : List ℕ) (r : Bool) → is_blank b ≡ r → (blanks : List ℕ) × AreBlanks blanks × (text ≡ blanks ++ without_blanks text) → (blanks : List ℕ) × AreBlanks blanks × (b ∷ text ≡ blanks ++ cond r (without_blanks text) (b ∷ text))

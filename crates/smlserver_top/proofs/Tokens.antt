@@ -7,7 +7,7 @@ use Rattle.std.specs.Str.{bytes_eq}
 use Rattle.std.proofs.lemmas.Slice.Eq.{bytes_eq-Decides}
 use Rattle.std.proofs.lemmas.Bool.{eqb-true}
 use Rattle.smlserver_top.specs.Reading.{after}
-use Rattle.smlserver_top.proofs.Steps.{after-append, after_none, begins_after}
+use Rattle.smlserver_top.proofs.Options.{after-append, after_none, begins_after}
 
 pub stripped : (text token : List ℕ) (r : Option (Bor (List ℕ))) → MatchOption r ((rest : List ℕ) → text ≡ token ++ rest → ⊥) (λ x. text ≡ token ++ x.now) → option_copied r ≡ after token text
 stripped text token None m = sym (after_none token text m)

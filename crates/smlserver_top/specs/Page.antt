@@ -1,6 +1,6 @@
 -- What a page command gives, and when each of its refusals comes.
-use Rattle.std.specs.Prelude.{◌≡◌, ◌⊎◌, ◌≤◌, ℕ, List, [], ◌∷◌, ◌++◌, length, codes}
-use Rattle.outside_world.specs.Told.{Rose, Contents, HoldsFile, LacksFile, HoldsLongFile}
+use Rattle.std.specs.Prelude.{◌≡◌, ◌⊎◌, ◌≤◌, ℕ, List, [], ◌∷◌, ◌++◌, length, Option, Some, None, codes}
+use Rattle.outside_world.specs.Told.{Rose, Contents, HoldsFile, LacksFile, HoldsLongFile, GrewByFront}
 use Rattle.smlserver_top.specs.declared.page.Stop.{Stop}
 use Rattle.smlserver_top.specs.declared.page.Stop.TheVariants.{BadWords, Refused, NoMemory}
 use Rattle.smlserver_top.specs.declared.page.Reason.{Reason}
@@ -63,10 +63,14 @@ IsBadProject contents words file = (path : List ℕ) × IsPageCommand words file
 abbrev pub IsBadScript : Contents → List (List ℕ) → List ℕ → Type 0
 IsBadScript contents words file = LeadsTo contents words file × HoldsOther contents file HasParts
 
+-- the words lead to this file, and it isn't of the form that it must have
+abbrev pub IsNotBuilt : Contents → List (List ℕ) → List ℕ → Type 0
+IsNotBuilt contents words file = IsBadProject contents words file ⊎ IsBadScript contents words file
+
 -- why a file is refused, by its reason
 abbrev pub IsRefused : Contents → ℕ → ℕ → List (List ℕ) → List ℕ → Reason → Type 0
 IsRefused contents before after words file FileFault = IsAskedFor contents words file × IsMissing contents before after file
-IsRefused contents before after words file NotBuilt = IsBadProject contents words file ⊎ IsBadScript contents words file
+IsRefused contents before after words file NotBuilt = IsNotBuilt contents words file
 
 -- why there is no page
 abbrev pub HasCause : Contents → ℕ → ℕ → List (List ℕ) → Stop → Type 0
@@ -93,3 +97,26 @@ reason_name NotBuilt = codes "NotBuilt"
 -- the line of a refusal: `refused FILE 0 REASON`
 abbrev pub refusal_line : List ℕ → Reason → List ℕ
 refusal_line file reason = codes "refused " ++ (file ++ (codes " 0 " ++ (reason_name reason ++ 10 ∷ [])))
+
+abbrev pub not_built_line : List ℕ → List ℕ
+not_built_line file = refusal_line file NotBuilt
+
+-- the exit statuses
+abbrev pub IsStatus : ℕ → Type 0
+IsStatus status = (status ≡ 0) ⊎ ((status ≡ 2) ⊎ ((status ≡ 3) ⊎ ((status ≡ 4) ⊎ (status ≡ 7))))
+
+-- a whole answer: the body of the page, or the line that says why there is none
+abbrev pub IsAnswer : Contents → ℕ → ℕ → List (List ℕ) → List ℕ → Type 0
+IsAnswer contents before after words bytes =
+    IsPage contents words bytes
+    ⊎ ((AreBadWords words × (bytes ≡ bad_words_line))
+    ⊎ ((file : List ℕ) × (reason : Reason) × IsRefused contents before after words file reason × (bytes ≡ refusal_line file reason)))
+
+-- the output is as it was, or holds a front of an answer more
+abbrev pub IsUnfinished : Option (List ℕ) → Option (List ℕ) → (List ℕ → Type 0) → Type 0
+IsUnfinished old new answer = (new ≡ old) ⊎ ((bytes : List ℕ) × answer bytes × GrewByFront old bytes new)
+
+-- the files tell what they hold
+abbrev pub AreTold : Contents → Type 0
+AreTold None = ⊥
+AreTold (Some text_at) = Unit {0}

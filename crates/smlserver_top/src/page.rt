@@ -46,6 +46,7 @@ fn read<F: Files>(files: &mut F, name: Text) -> Result<(Text, Text), Stop>
     ensures stop { IfErr result (HasReadCause (F.contents files.old) (F.file_count files.old) (F.file_count files.new) name) }
     ensures same { F.contents files.new ≡ F.contents files.old }
     ensures count { F.file_count files.old ≤ F.file_count files.new }
+    ensures keeps { F.kept files.new ≡ F.kept files.old }
 {
     match files.read_file(&name, MOST) {
         Ok(text) => Ok((name, text)),
@@ -66,6 +67,7 @@ pub(crate) fn page_body<F: Files>(
     ensures stop { IfErr result (HasCause (F.contents files.old) (F.file_count files.old) (F.file_count files.new) (map (λ w. w.now) words.now)) }
     ensures same { F.contents files.new ≡ F.contents files.old }
     ensures count { F.file_count files.old ≤ F.file_count files.new }
+    ensures keeps { F.kept files.new ≡ F.kept files.old }
 {
     let Some((project, path)) = page_words(words) else {
         return Err(Stop::BadWords);
