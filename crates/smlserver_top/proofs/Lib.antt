@@ -1,0 +1,11 @@
+pub mod Tokens
+pub mod Options
+pub mod Spacing
+pub mod Literals
+pub mod Parents
+pub mod Lines
+pub mod JoinedLaws
+pub mod Grammar
+pub mod Bounds
+pub mod PageLaws
+pub mod Refusals

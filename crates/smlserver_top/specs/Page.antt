@@ -1,0 +1,122 @@
+-- What a page command gives, and when each of its refusals comes.
+use Rattle.std.specs.Prelude.{◌≡◌, ◌⊎◌, ◌≤◌, ℕ, List, [], ◌∷◌, ◌++◌, length, Option, Some, None, codes}
+use Rattle.outside_world.specs.Told.{Rose, Contents, HoldsFile, LacksFile, HoldsLongFile, GrewByFront}
+use Rattle.smlserver_top.specs.declared.page.Stop.{Stop}
+use Rattle.smlserver_top.specs.declared.page.Stop.TheVariants.{BadWords, Refused, NoMemory}
+use Rattle.smlserver_top.specs.declared.page.Reason.{Reason}
+use Rattle.smlserver_top.specs.declared.page.Reason.TheVariants.{FileFault, NotBuilt}
+use Rattle.smlserver_top.specs.declared.part.Part.{Part}
+use Rattle.smlserver_top.specs.Parts.{text_of}
+use Rattle.smlserver_top.specs.Script.{IsScript}
+use Rattle.smlserver_top.specs.Project.{IsProject}
+use Rattle.smlserver_top.specs.Words.{IsPageCommand, AreBadWords}
+
+-- the files hold this text under this name, where they tell it, and it has at most 4,096 bytes
+pub record HoldsText (contents : Contents) (name text : List ℕ) : Type 0 where
+  pub held : HoldsFile contents name text
+  pub short : length text ≤ 4096
+
+-- what the files hold under the name is longer, or no text of this form
+abbrev pub HoldsOther : Contents → List ℕ → (List ℕ → Type 0) → Type 0
+HoldsOther contents name form = HoldsLongFile contents name 4096 ⊎ ((text : List ℕ) × HoldsText contents name text × (form text → ⊥))
+
+-- the files hold nothing under the name, or their count of faults rose in the call
+abbrev pub IsMissing : Contents → ℕ → ℕ → List ℕ → Type 0
+IsMissing contents before after name = LacksFile contents name ⊎ Rose before after
+
+-- a project with a script under the path
+abbrev pub HasScript : List ℕ → List ℕ → Type 0
+HasScript path text = (file : List ℕ) × IsProject text path file
+
+-- a script of the form that is run
+abbrev pub HasParts : List ℕ → Type 0
+HasParts text = (parts : List Part) × IsScript text parts
+
+-- the words ask for this project, and the files hold it with this script's file under the path asked for
+pub record LeadsTo (contents : Contents) (words : List (List ℕ)) (file : List ℕ) : Type 0 where
+  pub project : List ℕ
+  pub path : List ℕ
+  pub text : List ℕ
+  pub words_form : IsPageCommand words project path
+  pub project_held : HoldsText contents project text
+  pub project_form : IsProject text path file
+
+-- the page that the words ask for has this body: the script under the path writes it
+pub record IsPage (contents : Contents) (words : List (List ℕ)) (body : List ℕ) : Type 0 where
+  pub file : List ℕ
+  pub script : List ℕ
+  pub leads : LeadsTo contents words file
+  pub script_held : HoldsText contents file script
+  pub parts : List Part
+  pub script_form : IsScript script parts
+  pub body_is : body ≡ text_of parts
+
+-- the words ask for this project file, or it leads to this script's file
+abbrev pub IsAskedFor : Contents → List (List ℕ) → List ℕ → Type 0
+IsAskedFor contents words file = ((path : List ℕ) × IsPageCommand words file path) ⊎ LeadsTo contents words file
+
+-- the words ask for this project file, which is no project with a script under their path
+abbrev pub IsBadProject : Contents → List (List ℕ) → List ℕ → Type 0
+IsBadProject contents words file = (path : List ℕ) × IsPageCommand words file path × HoldsOther contents file (HasScript path)
+
+-- the project leads to this file, which is no script of the form that is run
+abbrev pub IsBadScript : Contents → List (List ℕ) → List ℕ → Type 0
+IsBadScript contents words file = LeadsTo contents words file × HoldsOther contents file HasParts
+
+-- the words lead to this file, and it isn't of the form that it must have
+abbrev pub IsNotBuilt : Contents → List (List ℕ) → List ℕ → Type 0
+IsNotBuilt contents words file = IsBadProject contents words file ⊎ IsBadScript contents words file
+
+-- why a file is refused, by its reason
+abbrev pub IsRefused : Contents → ℕ → ℕ → List (List ℕ) → List ℕ → Reason → Type 0
+IsRefused contents before after words file FileFault = IsAskedFor contents words file × IsMissing contents before after file
+IsRefused contents before after words file NotBuilt = IsNotBuilt contents words file
+
+-- why there is no page
+abbrev pub HasCause : Contents → ℕ → ℕ → List (List ℕ) → Stop → Type 0
+HasCause contents before after words BadWords = AreBadWords words
+HasCause contents before after words (Refused file reason) = IsRefused contents before after words file reason
+HasCause contents before after words NoMemory = Unit {0}
+
+-- why the text of a file wasn't read
+abbrev pub HasReadCause : Contents → ℕ → ℕ → List ℕ → Stop → Type 0
+HasReadCause contents before after name BadWords = ⊥
+HasReadCause contents before after name (Refused file FileFault) = (file ≡ name) × IsMissing contents before after name
+HasReadCause contents before after name (Refused file NotBuilt) = (file ≡ name) × HoldsLongFile contents name 4096
+HasReadCause contents before after name NoMemory = Unit {0}
+
+-- the line of words that ask for no page
+abbrev pub bad_words_line : List ℕ
+bad_words_line = codes "bad words" ++ 10 ∷ []
+
+-- the name of a reason
+abbrev pub reason_name : Reason → List ℕ
+reason_name FileFault = codes "FileFault"
+reason_name NotBuilt = codes "NotBuilt"
+
+-- the line of a refusal: `refused FILE 0 REASON`
+abbrev pub refusal_line : List ℕ → Reason → List ℕ
+refusal_line file reason = codes "refused " ++ (file ++ (codes " 0 " ++ (reason_name reason ++ 10 ∷ [])))
+
+abbrev pub not_built_line : List ℕ → List ℕ
+not_built_line file = refusal_line file NotBuilt
+
+-- the exit statuses
+abbrev pub IsStatus : ℕ → Type 0
+IsStatus status = (status ≡ 0) ⊎ ((status ≡ 2) ⊎ ((status ≡ 3) ⊎ ((status ≡ 4) ⊎ (status ≡ 7))))
+
+-- a whole answer: the body of the page, or the line that says why there is none
+abbrev pub IsAnswer : Contents → ℕ → ℕ → List (List ℕ) → List ℕ → Type 0
+IsAnswer contents before after words bytes =
+    IsPage contents words bytes
+    ⊎ ((AreBadWords words × (bytes ≡ bad_words_line))
+    ⊎ ((file : List ℕ) × (reason : Reason) × IsRefused contents before after words file reason × (bytes ≡ refusal_line file reason)))
+
+-- the output is as it was, or holds a front of an answer more
+abbrev pub IsUnfinished : Option (List ℕ) → Option (List ℕ) → (List ℕ → Type 0) → Type 0
+IsUnfinished old new answer = (new ≡ old) ⊎ ((bytes : List ℕ) × answer bytes × GrewByFront old bytes new)
+
+-- the files tell what they hold
+abbrev pub AreTold : Contents → Type 0
+AreTold None = ⊥
+AreTold (Some text_at) = Unit {0}

@@ -1,0 +1,13 @@
+-- The words of a page command.
+use Rattle.std.specs.Prelude.{◌≡◌, ℕ, true, false, List, [], ◌∷◌, codes}
+use Rattle.smlserver_top.specs.Spelling.{begins_with}
+
+-- the words are `page`, the project's file, the path and the empty query
+pub record IsPageCommand (words : List (List ℕ)) (project path : List ℕ) : Type 0 where
+  pub no_option : begins_with (codes "--") project ≡ false
+  pub from_root : begins_with (codes "/") path ≡ true
+  pub words_are : words ≡ codes "page" ∷ project ∷ path ∷ [] ∷ []
+
+-- the words ask for no page
+abbrev pub AreBadWords : List (List ℕ) → Type 0
+AreBadWords words = (project path : List ℕ) → IsPageCommand words project path → ⊥

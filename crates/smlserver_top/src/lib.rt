@@ -1,0 +1,13 @@
+//! The commands of the server, from words to a status.
+#![tactic(auto)]
+
+mod compile;
+mod page;
+mod part;
+mod project;
+mod run;
+mod script;
+mod spelling;
+mod words;
+
+pub use run::run_words;

@@ -1,0 +1,35 @@
+// The words of a page command.
+ghost use Rattle.std.specs.Prelude.{◌≡◌, map, IsNone, IfSome};
+ghost use Rattle.smlserver_top.specs.Spelling.{begins_with};
+ghost use Rattle.smlserver_top.specs.Words.{IsPageCommand, AreBadWords};
+
+use crate::spelling::after;
+
+pub(crate) fn begins_with(front: &[u8], text: &[u8]) -> bool
+    ensures { result ≡ begins_with front.now text.now }
+{
+    after(front, text).is_some()
+}
+
+/// The project's file and the path, where the words ask for a page.
+pub(crate) fn page_words<'a>(words: &[&'a str]) -> Option<(&'a [u8], &'a [u8])>
+    ensures found { IfSome result (λ found. IsPageCommand (map (λ w. w.now) words.now) found.0.now found.1.now) }
+    ensures none { IsNone result → AreBadWords (map (λ w. w.now) words.now) }
+{
+    match words {
+        [command, project, path, query] => {
+            let project = project.as_bytes();
+            let path = path.as_bytes();
+            if *command == "page"
+                && !begins_with(b"--", project)
+                && begins_with(b"/", path)
+                && query.is_empty()
+            {
+                Some((project, path))
+            } else {
+                None
+            }
+        }
+        _ => None,
+    }
+}
