@@ -7,5 +7,6 @@ pub mod Lines
 pub mod JoinedLaws
 pub mod Grammar
 pub mod Bounds
+pub mod Evaluated
 pub mod PageLaws
 pub mod Refusals

@@ -6,8 +6,10 @@ use Rattle.smlserver_top.specs.declared.page.Stop.TheVariants.{BadWords, Refused
 use Rattle.smlserver_top.specs.declared.page.Reason.{Reason}
 use Rattle.smlserver_top.specs.declared.page.Reason.TheVariants.{FileFault, NotBuilt}
 use Rattle.smlserver_top.specs.declared.part.Part.{Part}
-use Rattle.smlserver_top.specs.Parts.{text_of}
+use Rattle.sml_syntax.specs.declared.tree.Dec.{Dec}
+use Rattle.sml_syntax.specs.Page.{PageOf, PageEnd, Finished, html_type}
 use Rattle.smlserver_top.specs.Script.{IsScript}
+use Rattle.smlserver_top.specs.Tree.{IsScriptOf}
 use Rattle.smlserver_top.specs.Project.{IsProject}
 use Rattle.smlserver_top.specs.Words.{IsPageCommand, AreBadWords}
 
@@ -41,15 +43,16 @@ pub record LeadsTo (contents : Contents) (words : List (List ℕ)) (file : List 
   pub project_held : HoldsText contents project text
   pub project_form : IsProject text path file
 
--- the page that the words ask for has this body: the script under the path writes it
+-- the page that the words ask for has this body: evaluating the declarations of the script under the path,
+-- from an empty store and without a form, databases or answers, makes no call and ends with it
 pub record IsPage (contents : Contents) (words : List (List ℕ)) (body : List ℕ) : Type 0 where
   pub file : List ℕ
   pub script : List ℕ
   pub leads : LeadsTo contents words file
   pub script_held : HoldsText contents file script
-  pub parts : List Part
-  pub script_form : IsScript script parts
-  pub body_is : body ≡ text_of parts
+  pub decs : List Dec
+  pub script_form : IsScriptOf script decs
+  pub evaluated : PageOf decs [] [] [] [] (Finished 200 html_type body)
 
 -- the words ask for this project file, or it leads to this script's file
 abbrev pub IsAskedFor : Contents → List (List ℕ) → List ℕ → Type 0
