@@ -3,7 +3,7 @@
 -- and 1 more for each word that it writes into a region.
 -- Those of `const`, `text`, `mul`, `text_from_int`, `text_cat`, `write` and `halt` stand here; no other
 -- instruction has a step yet. Limits on stack, charge and body are no part of the steps.
-use Rattle.std.specs.Prelude.{◌≡◌, ℕ, zero, suc, ◌+◌, ◌-◌, ◌*◌, ◌/◌, ◌%◌, ◌^◌, ℤ, ◌*ℤ◌, nat_lt, ◌==◌, List, [], ◌∷◌, ◌++◌, length, drop, slice_get, Option, Some, None, option_and_then, if◌then◌else◌}
+use Rattle.std.specs.Prelude.{◌≡◌, ◌≢◌, ℕ, zero, suc, ◌+◌, ◌-◌, ◌*◌, ◌/◌, ◌%◌, ◌^◌, ℤ, ◌*ℤ◌, nat_lt, ◌==◌, List, [], ◌∷◌, ◌++◌, length, drop, slice_get, Option, Some, None, option_and_then, if◌then◌else◌}
 use Rattle.sml_syntax.specs.declared.database.WebCall.{WebCall}
 use Rattle.kam_code.specs.declared.code.Code.{Code}
 use Rattle.kam_code.specs.declared.instr.Instr.{Instr}
@@ -153,8 +153,13 @@ abbrev pub steps : Code → ℕ → State → Next
 steps code zero state = Goes state
 steps code (suc n) state = and_then (step code state) (steps code n)
 
--- from the start, for every form and list of databases, the code's steps come to a halt, with this body
-abbrev pub Writes : Code → List ℕ → Type 0
-Writes code body =
+-- for every form and list of databases, so many steps from the start lead to a halt, with this body
+abbrev pub Writes : Code → ℕ → List ℕ → Type 0
+Writes code n body =
     (form : List (List ℕ × List ℕ)) (databases : List (List ℕ)) →
-    (n : ℕ) × (final : State) × (steps code n (start form databases) ≡ Ends Halted final) × (final.body ≡ body)
+    (final : State) × (steps code n (start form databases) ≡ Ends Halted final) × (final.body ≡ body)
+
+-- for every form and list of databases, no state that the steps from the start reach lacks a step
+abbrev pub NeverStuck : Code → Type 0
+NeverStuck code =
+    (form : List (List ℕ × List ℕ)) (databases : List (List ℕ)) (n : ℕ) → steps code n (start form databases) ≢ Stuck

@@ -2,4 +2,5 @@
 #![tactic(auto)]
 
 mod compile;
+mod machine;
 mod part;
