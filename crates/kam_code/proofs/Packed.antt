@@ -87,9 +87,9 @@ length-words zero bytes = refl
 length-words (suc n) bytes = ap suc (length-words n (drop 8 bytes))
 
 -- how many words a text takes
-pub length-text_words : (text : List ℕ) → length (text_words text) ≡ word_count (length text) + 1
+pub text_words_length : (text : List ℕ) → length (text_words text) ≡ word_count (length text) + 1
 unfolding text_words
-length-text_words text = let n : length (words (word_count (length text)) text) ≡ word_count (length text) = length-words (word_count (length text)) text in omega arith
+text_words_length text = let n : length (words (word_count (length text)) text) ≡ word_count (length text) = length-words (word_count (length text)) text in omega arith
 
 -- a text is read back, whatever follows it
 pub text_from-text_words : (text back : List ℕ) → IsBytes text → text_from (text_words text ++ back) ≡ Some text
