@@ -1,11 +1,12 @@
 -- Steps in states whose only region is the global one.
-use Rattle.std.proofs.Common.{◌≡◌, ℕ, ◌+◌, ◌*◌, ◌^◌, ◌<◌, ◌≤◌, Bool, true, false, cond, List, [], ◌∷◌, ◌++◌, length, Option, Some, None, refl, ap, sym, ◌∙◌, arith}
+use Rattle.std.proofs.Common.{◌≡◌, ℕ, suc, ◌+◌, ◌-◌, ◌*◌, ◌^◌, ◌<◌, ◌≤◌, Bool, true, false, cond, List, [], ◌∷◌, ◌++◌, length, Option, Some, None, refl, ap, sym, ◌∙◌, arith}
 use Rattle.std.specs.Prelude.{nat_lt, ◌==◌, slice_get}
 use Rattle.std.proofs.lemmas.Bool.Decides.{nat_tests}
 use Rattle.kam_code.specs.declared.code.Code.{Code}
 use Rattle.kam_code.specs.State.{Region, Handler, State}
 use Rattle.kam_code.specs.Layout.{text_words}
-use Rattle.kam_code.specs.Step.{Uncaught, Next, Goes, Ends, Stuck, with_found, onward, pushed, region_words, pointer, grown, made_in, text_made, raised_to, thrown}
+use Rattle.kam_code.specs.Step.{Uncaught, Next, Goes, Ends, Stuck, with_found, onward, pushed, region_words, pointer, grown, made_in, text_made, raised_to, thrown, step, steps}
+use Rattle.kam_code.proofs.Runs.{steps-suc}
 use Rattle.smlserver_top.specs.OneRegion.{global}
 
 -- words made in the global region, where there is room
@@ -25,3 +26,9 @@ thrown_global code number words name stack state e h l n =
     made_in_global words (number ∷ 0 ∷ []) state (λ p later. raised_to code number p state.handlers (onward stack later)) e (omega arith)
     ∙ ap (λ hs. raised_to code number (2 ^ 32 + length words) hs (onward stack (grown 1 (number ∷ 0 ∷ []) state))) h
     ∙ ap (λ o. with_found o (λ x. Ends (Uncaught x) (onward stack (grown 1 (number ∷ 0 ∷ []) state)))) n
+
+-- a turn of the run
+pub steps_turn : (code : Code) (most turn : ℕ) (state next : State) (whole : Next) → turn < most → steps code (most - turn) state ≡ whole → Goes next ≡ step code state → steps code (most - (turn + 1)) next ≡ whole
+steps_turn code most turn state next whole l w e =
+    let n : most - turn ≡ suc (most - (turn + 1)) = omega arith in
+    sym (ap (λ k. steps code k state) n ∙ steps-suc code (most - (turn + 1)) state next (sym e)) ∙ w

@@ -1,5 +1,5 @@
 // The machine over one region: it makes the steps of the instructions of straight code.
-ghost use Rattle.std.specs.Prelude.{◌≡◌, ◌++◌, ◌<◌, ◌^◌, [], ◌∷◌, drop, slice_get, IfOk, OnOk, IfSome, IsNone};
+ghost use Rattle.std.specs.Prelude.{◌≡◌, ◌++◌, ◌<◌, ◌^◌, [], ◌∷◌, drop, slice_get, IfOk, OnOk, IfSome, IsSome, IsNone, length};
 ghost use Rattle.std.specs.Option.{is_some, unwrap_or, option_copied};
 ghost use Rattle.kam_code.specs.State.{start};
 ghost use Rattle.kam_code.specs.Word.{spelling};
@@ -281,4 +281,56 @@ fn spelling(alloc: Global, number: i64) -> Result<Vec<u8>, NoMemory>
     }
     text.extend_from_slice(number.unsigned_abs().to_string(alloc)?.as_bytes())?;
     Ok(text)
+}
+
+// The instruction at an address.
+fn instr_at(instrs: &[Instr], address: usize) -> Option<&Instr>
+    ensures at { option_copied result ≡ slice_get instrs.now address }
+    ensures within { IsSome result → address < length instrs.now }
+{
+    instrs.get(address)
+}
+
+// Steps and runs.
+impl Machine {
+    // What an instruction does.
+    fn act(&mut self, alloc: Global, code: &Code, instr: Instr) -> Result<Stop, NoMemory>
+        requires { self.old.address < 2 ^ 63 }
+        ensures { IfOk result (λ stop. next_of stop self.new ≡ act code.now instr self.old) }
+    {
+        match instr {
+            Instr::Const(k) => self.push(k.cast_unsigned()),
+            Instr::Text(number) => self.text(code, number),
+            Instr::Mul => self.multiply(alloc, code),
+            Instr::TextFromInt => self.spell(alloc, code),
+            Instr::TextCat => self.join(alloc, code),
+            Instr::Write => self.write(code),
+            Instr::Halt => Ok(self.halt(code)),
+            _ => Ok(Stop::Stuck),
+        }
+    }
+
+    // One step.
+    fn step(&mut self, alloc: Global, code: &Code) -> Result<Stop, NoMemory>
+        ensures { IfOk result (λ stop. next_of stop self.new ≡ step code.now self.old) }
+    {
+        match instr_at(code.instrs.as_slice(), self.address) {
+            Some(instr) => self.act(alloc, code, *instr),
+            None => Ok(Stop::Stuck),
+        }
+    }
+
+    /// So many steps, or fewer where the run ends or a step is wanting.
+    #[tactic(auto, using(crate::proofs::Steps::steps_turn))]
+    pub(crate) fn run(&mut self, alloc: Global, code: &Code, most: usize) -> Result<Stop, NoMemory>
+        ensures { IfOk result (λ stop. next_of stop self.new ≡ steps code.now most self.old) }
+    {
+        for turn in 0..most {
+            match self.step(alloc, code)? {
+                Stop::Going => {}
+                stop => return Ok(stop),
+            }
+        }
+        Ok(Stop::Going)
+    }
 }
