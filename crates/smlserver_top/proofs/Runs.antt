@@ -264,8 +264,7 @@ ready_all pre (Product m n ∷ parts) a s =
 ready_all pre (Plain t ∷ parts) a s =
     let n : length (pre ++ t ∷ []) ≡ length pre + 1 = omega (arith, length-append pre (t ∷ [])) in
     let later = ready_all (pre ++ t ∷ []) parts a.1 s.1 in
-    let same = subst (λ l. AreReady l (length (pre ++ t ∷ [])) parts) (append_assoc pre (t ∷ []) (texts_of parts)) later in
-    (
+    let same = subst (λ l. AreReady l (length (pre ++ t ∷ [])) parts) (append_assoc pre (t ∷ []) (texts_of parts)) later in (
       record { found = λ text e. at_seam pre t (texts_of parts) ∙ ap Some (same_text t text e); bytes = plain_bytes t a.0; small = s.0 },
       subst (λ m. AreReady (pre ++ t ∷ texts_of parts) m parts) n same,
     )

@@ -3,11 +3,14 @@ use Rattle.std.proofs.Common.{◌≡◌, ℕ, suc, ◌+◌, ◌-◌, ◌*◌, �
 use Rattle.std.specs.Prelude.{nat_lt, ◌==◌, slice_get}
 use Rattle.std.proofs.lemmas.Bool.Decides.{nat_tests}
 use Rattle.kam_code.specs.declared.code.Code.{Code}
-use Rattle.kam_code.specs.State.{Region, Handler, State}
+use Rattle.kam_code.specs.State.{State, start}
 use Rattle.kam_code.specs.Layout.{text_words}
-use Rattle.kam_code.specs.Step.{Uncaught, Next, Goes, Ends, Stuck, with_found, onward, pushed, region_words, pointer, grown, made_in, text_made, raised_to, thrown, step, steps}
+use Rattle.kam_code.specs.Step.{Halted, Uncaught, Next, Goes, Ends, Stuck, with_found, onward, pushed, region_words, pointer, grown, made_in, text_made, raised_to, thrown, step, steps, Writes}
 use Rattle.kam_code.proofs.Runs.{steps-suc}
+use Rattle.smlserver_top.specs.declared.machine.Stop.{Stop}
+use Rattle.smlserver_top.specs.declared.machine.Stop.TheVariants.{Going as going, Halted as halted, Raised as raised, Stuck as stuck}
 use Rattle.smlserver_top.specs.OneRegion.{global}
+use Rattle.smlserver_top.specs.Stopped.{next_of}
 
 -- words made in the global region, where there is room
 pub made_in_global : (words more : List ℕ) (state : State) (f : ℕ → State → Next) → state.regions ≡ global words → length words + length more < 2 ^ 32 → made_in 1 more state f ≡ f (2 ^ 32 + length words) (grown 1 more state)
@@ -32,3 +35,16 @@ pub steps_turn : (code : Code) (most turn : ℕ) (state next : State) (whole : N
 steps_turn code most turn state next whole l w e =
     let n : most - turn ≡ suc (most - (turn + 1)) = omega arith in
     sym (ap (λ k. steps code k state) n ∙ steps-suc code (most - (turn + 1)) state next (sym e)) ∙ w
+
+ends_halted : (stop : Stop) (state final : State) → next_of stop state ≡ Ends Halted final → (stop ≡ halted) × (state ≡ final)
+ends_halted going state final e = absurd (cc)
+ends_halted halted state final e = (refl, cc)
+ends_halted (raised name) state final e = absurd (cc)
+ends_halted stuck state final e = absurd (cc)
+
+-- a run of code that writes is halted, and the body is what the code writes
+pub run_writes : (code : Code) (n m : ℕ) (body : List ℕ) (stop : Stop) (first last : State) → Writes code n body → first ≡ start [] [] → m ≡ n → next_of stop last ≡ steps code m first → (stop ≡ halted) × (last.body ≡ body)
+run_writes code n m body stop first last w f e s =
+    let halt = w [] [] in
+    let ends = ends_halted stop last halt.0 (s ∙ ap (λ k. steps code k first) e ∙ ap (steps code n) f ∙ halt.1) in
+    (ends.0, ap (λ state. state.body) ends.1 ∙ halt.2)

@@ -60,16 +60,9 @@ fn add_rest(
 }
 
 // The code of the parts. They raise nothing, so it names no exception.
-#[tactic(auto, using(crate::proofs::Runs::code_writes, crate::proofs::Runs::code_never_stuck))]
-fn compile(alloc: Global, parts: &[Part]) -> Result<Code, NoMemory>
-    requires plain { ArePlain parts.now }
-    requires small { AreSmall parts.now }
-    requires few { AreFew parts.now }
+fn code_of(alloc: Global, parts: &[Part]) -> Result<Code, NoMemory>
     ensures instrs { IfOk result (λ code. code.instrs ≡ code_of parts.now) }
     ensures texts { IfOk result (λ code. code.texts ≡ texts_of parts.now) }
-    // The steps of the code come to a halt with the parts' text, and none is wanting on the way.
-    ensures writes { IfOk result (λ code. Writes code (length code.instrs) (text_of parts.now)) }
-    ensures never_stuck { IfOk result (λ code. NeverStuck code) }
 {
     let mut instrs = Vec::new(alloc);
     let mut texts = Vec::new(alloc);
@@ -86,6 +79,18 @@ fn compile(alloc: Global, parts: &[Part]) -> Result<Code, NoMemory>
         descs: Listed::of(Vec::new(alloc)),
         names: Listed::of(Vec::new(alloc)),
     })
+}
+
+// Code whose steps come to a halt with the parts' text, and of which none is wanting on the way.
+fn compile(alloc: Global, parts: &[Part]) -> Result<Code, NoMemory>
+    requires plain { ArePlain parts.now }
+    requires small { AreSmall parts.now }
+    requires few { AreFew parts.now }
+    ensures writes { IfOk result (λ code. Writes code (length code.instrs) (text_of parts.now)) }
+    ensures never_stuck { IfOk result (λ code. NeverStuck code) }
+{
+    let code = code_of(alloc, parts)?;
+    Ok(code)
 }
 
 /// What the parts write.
