@@ -1,0 +1,7 @@
+//! Tests of the server's commands and of the objects in memory that they run over.
+#![tactic(auto)]
+
+#[cfg(test)]
+mod outside;
+#[cfg(test)]
+mod pages;

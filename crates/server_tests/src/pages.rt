@@ -1,0 +1,276 @@
+// Pages over files in memory.
+use outside_world::{MemClock, MemFiles, MemSink, MemSource};
+use sml_syntax::Text;
+use smlserver_top::run_words;
+use std::alloc::{AllocError, Allocator};
+use std::process::Abort;
+use std::test::Fail;
+
+// A run: the words, the files, which reads and writes fail, and what is wanted.
+#[derive(Clone, Copy)]
+struct Run<'a> {
+    words: &'a [&'a str],
+    project: &'a str,
+    script: &'a str,
+    reads: &'a [u64],
+    writes: &'a [u64],
+    status: u8,
+    output: &'a str,
+}
+
+const WORDS: [&str; 4] = ["page", "site", "/hello", ""];
+
+const PROJECT: &str = "smlserver 1\nscript /hello hello.sml\n";
+
+const SCRIPT: &str = "val _ = Web.write (\"<p>\" ^ Int.toString (6 * 7) ^ \"</p>\")";
+
+const PAGE: &str = "<p>42</p>";
+
+// The hello product.
+const HELLO: Run = Run {
+    words: &WORDS,
+    project: PROJECT,
+    script: SCRIPT,
+    reads: &[],
+    writes: &[],
+    status: 0,
+    output: PAGE,
+};
+
+fn check(rt: &(impl Abort + AllocGlobal), run: &Run) -> Result<(), Fail> {
+    let alloc = rt.alloc();
+    let mut files = MemFiles::make(alloc, run.reads)?;
+    let site = Text::from_bytes(alloc, run.project.as_bytes())?;
+    files.put_file(&Text::from_bytes(alloc, b"site")?, &site)?;
+    let script = Text::from_bytes(alloc, run.script.as_bytes())?;
+    files.put_file(&Text::from_bytes(alloc, b"hello.sml")?, &script)?;
+    let mut input = MemSource::make(alloc, &[], &[])?;
+    let mut output = MemSink::make(alloc, run.writes)?;
+    let mut clock = MemClock::make(alloc, &[])?;
+    let status = run_words(
+        alloc,
+        run.words,
+        &mut files,
+        &mut input,
+        &mut output,
+        &mut clock,
+    );
+    assert_eq!(rt; status, run.status, "{}", run.script);
+    assert_eq!(rt; output.written(), run.output.as_bytes(), "{}", run.script);
+    Ok(())
+}
+
+#[test]
+fn writes_what_scripts_write(rt: HostRuntime) -> Result<(), Fail> {
+    for (script, output) in [
+        (SCRIPT, PAGE),
+        ("val _ = Web.write \"a\"", "a"),
+        ("val _ = Web.write \"\"", ""),
+        ("val _=Web.write\"a\"", "a"),
+        ("\x0c\tval\r\n_ =\nWeb.write ( \"(*\" ) \n", "(*"),
+        (
+            "val _ = Web.write(\"x\"^Int.toString(0042*9999))",
+            "x419958",
+        ),
+        (
+            "val _ = Web.write (Int.toString ( 9999 * 9999 ) ^ \"\" ^ Int.toString (0*0))",
+            "999800010",
+        ),
+        (
+            "val _ = Web.write (\"a\"^\"b\"^\"c\"^\"d\"^\"e\"^\"f\"^\"g\"^\"h\"^\"i\"^\"j\"^\"k\"^\"l\"^\"m\"^\"n\"^\"o\"^\"p\")",
+            "abcdefghijklmnop",
+        ),
+    ] {
+        check(
+            &rt,
+            &Run {
+                script,
+                output,
+                ..HELLO
+            },
+        )?;
+    }
+    Ok(())
+}
+
+#[test]
+fn refuses_other_scripts(rt: HostRuntime) -> Result<(), Fail> {
+    for script in [
+        "",
+        "val _ = 1",
+        "val_ = Web.write \"a\"",
+        "val _ = Web.write \"a\" ^ \"b\"",
+        "val _ = Web.write (\"a\" ^^ \"b\")",
+        "val _ = Web.write ()",
+        "val _ = Web.write (\"a\" ^)",
+        "val _ = Web.writex \"a\"",
+        "val _ = Web.write \"a\" (* a comment *)",
+        "val _ = Web.write (* a comment *) \"a\"",
+        "val _ = Web.write \"a\\n\"",
+        "val _ = Web.write \"a",
+        "val _ = Web.write \"a\"\nval _ = Web.write \"b\"",
+        "val _ = Web.write (Int.toString (12345 * 1))",
+        "val _ = Web.write (Int.toString (~1 * 1))",
+        "val _ = Web.write (Int.toString 6)",
+        "val _ = Web.write Int.toString (6 * 7)",
+        "val _ = Web.write (\"a\"^\"b\"^\"c\"^\"d\"^\"e\"^\"f\"^\"g\"^\"h\"^\"i\"^\"j\"^\"k\"^\"l\"^\"m\"^\"n\"^\"o\"^\"p\"^\"q\")",
+    ] {
+        check(
+            &rt,
+            &Run {
+                script,
+                status: 3,
+                output: "refused hello.sml 0 NotBuilt\n",
+                ..HELLO
+            },
+        )?;
+    }
+    Ok(())
+}
+
+#[test]
+fn reads_projects(rt: HostRuntime) -> Result<(), Fail> {
+    for (project, status, output) in [
+        ("smlserver 1\nscript /hello hello.sml", 0, PAGE),
+        (
+            "smlserver 1\nscript /other hello.sml\n",
+            3,
+            "refused site 0 NotBuilt\n",
+        ),
+        (
+            "smlserver 1\r\nscript /hello hello.sml\r\n",
+            3,
+            "refused site 0 NotBuilt\n",
+        ),
+        (
+            "smlserver 1\n\nscript /hello hello.sml\n",
+            3,
+            "refused site 0 NotBuilt\n",
+        ),
+        (
+            "smlserver 1\nscript /hello hello.sml\n\n",
+            3,
+            "refused site 0 NotBuilt\n",
+        ),
+        (
+            "smlserver 1\nscript /hello a/../hello.sml\n",
+            3,
+            "refused site 0 NotBuilt\n",
+        ),
+        (
+            "smlserver 1\nscript /hello /hello.sml\n",
+            3,
+            "refused site 0 NotBuilt\n",
+        ),
+        (
+            "smlserver 1\nscript /hello none.sml\n",
+            3,
+            "refused none.sml 0 FileFault\n",
+        ),
+        (
+            "smlserver 1\nscript /hello a..b/none.sml\n",
+            3,
+            "refused a..b/none.sml 0 FileFault\n",
+        ),
+        ("", 3, "refused site 0 NotBuilt\n"),
+    ] {
+        check(
+            &rt,
+            &Run {
+                project,
+                status,
+                output,
+                ..HELLO
+            },
+        )?;
+    }
+    Ok(())
+}
+
+#[test]
+fn refuses_other_words(rt: HostRuntime) -> Result<(), Fail> {
+    let none = "refused none 0 FileFault\n";
+    let bad = "bad words\n";
+    let cases: [(&[&str], u8, &str); 8] = [
+        (&["page", "none", "/hello", ""], 3, none),
+        (&["page", "site", "/hello"], 2, bad),
+        (&[], 2, bad),
+        (&["page", "site", "/hello", "", ""], 2, bad),
+        (&["page", "site", "hello", ""], 2, bad),
+        (&["page", "--site", "/hello", ""], 2, bad),
+        (&["page", "site", "/hello", "a=b"], 2, bad),
+        (&["pages", "site", "/hello", ""], 2, bad),
+    ];
+    for (words, status, output) in cases {
+        check(
+            &rt,
+            &Run {
+                words,
+                status,
+                output,
+                ..HELLO
+            },
+        )?;
+    }
+    Ok(())
+}
+
+#[test]
+fn tells_failed_reads_and_writes(rt: HostRuntime) -> Result<(), Fail> {
+    let cases: [(&[u64], &[u64], u8, &str); 5] = [
+        (&[0], &[], 3, "refused site 0 FileFault\n"),
+        (&[1], &[], 3, "refused hello.sml 0 FileFault\n"),
+        (&[2], &[1], 0, PAGE),
+        (&[], &[0], 4, ""),
+        (&[0], &[0], 4, ""),
+    ];
+    for (reads, writes, status, output) in cases {
+        check(
+            &rt,
+            &Run {
+                reads,
+                writes,
+                status,
+                output,
+                ..HELLO
+            },
+        )?;
+    }
+    check(
+        &rt,
+        &Run {
+            words: &["page"],
+            writes: &[0],
+            status: 4,
+            output: "",
+            ..HELLO
+        },
+    )
+}
+
+// The text and as many blanks as make it this long.
+fn padded<A: Allocator>(alloc: A, text: &str, length: usize) -> Result<String<A>, AllocError> {
+    let mut padded = String::new(alloc);
+    padded.push_str(text)?;
+    for _ in text.len()..length {
+        padded.push(' ')?;
+    }
+    Ok(padded)
+}
+
+#[test]
+fn reads_4096_bytes(rt: HostRuntime) -> Result<(), Fail> {
+    for (length, status, output) in [(4096, 0, PAGE), (4097, 3, "refused hello.sml 0 NotBuilt\n")] {
+        let script = padded(rt.alloc(), SCRIPT, length)?;
+        check(
+            &rt,
+            &Run {
+                script: script.as_str(),
+                status,
+                output,
+                ..HELLO
+            },
+        )?;
+    }
+    Ok(())
+}
