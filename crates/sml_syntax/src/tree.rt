@@ -1,5 +1,8 @@
 // The trees of programs, as the parser gives them.
-use crate::{Boxed, Listed, Text};
+ghost use Rattle.std.specs.Prelude.{◌≡◌, IfOk};
+
+use crate::{Boxed, Listed, NoMemory, Text};
+use std::alloc::Global;
 
 /// Where a node stands in its text, as byte offsets: the first byte, and the end of the last token.
 /// Parentheses around a node don't belong to it.
@@ -7,6 +10,15 @@ use crate::{Boxed, Listed, Text};
 pub struct Span {
     pub from: u64,
     pub to: u64,
+}
+
+impl Span {
+    /// Takes no memory.
+    pub fn try_copy(&self, _: Global) -> Result<Span, NoMemory>
+        ensures { IfOk result (λ copy. copy ≡ self.now) }
+    {
+        Ok(*self)
+    }
 }
 
 /// A type.
