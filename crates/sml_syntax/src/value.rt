@@ -37,9 +37,9 @@ pub struct Closure {
 #[cycle(values)]
 #[derive(Drop)]
 pub enum Bound {
-    Val(Value),
+    Variable(Value),
     /// A constructor of a datatype, and whether it takes an argument.
-    Con(bool),
+    Constructor(bool),
     /// An exception by its number, and whether it takes an argument.
-    Exn(u64, bool),
+    Exception(u64, bool),
 }
