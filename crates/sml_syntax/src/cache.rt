@@ -24,7 +24,7 @@ impl Kind {
 }
 
 /// What tells one cache from another.
-#[derive(Drop)]
+#[derive(Debug, PartialEq, Eq, Drop)]
 pub struct CacheId {
     pub name: Text,
     pub key: Desc,
@@ -45,7 +45,7 @@ impl CacheId {
     }
 }
 
-#[derive(Drop)]
+#[derive(Debug, PartialEq, Eq, Drop)]
 pub enum CacheOp {
     /// The key.
     Look(Datum),
@@ -69,7 +69,7 @@ impl CacheOp {
     }
 }
 
-#[derive(Drop)]
+#[derive(Debug, PartialEq, Eq, Drop)]
 pub struct CacheCall {
     pub id: CacheId,
     pub op: CacheOp,
@@ -86,7 +86,7 @@ impl CacheCall {
     }
 }
 
-#[derive(Drop)]
+#[derive(Debug, PartialEq, Eq, Drop)]
 pub enum CacheAns {
     Found(Datum),
     Absent,

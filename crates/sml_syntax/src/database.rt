@@ -6,7 +6,7 @@ use crate::{CacheAns, CacheCall, Listed, NoMemory, Text};
 use std::alloc::Global;
 
 /// A statement, with its table first.
-#[derive(Drop)]
+#[derive(Debug, PartialEq, Eq, Drop)]
 pub enum DbCmd {
     Create(Text),
     /// A key and a value.
@@ -42,7 +42,7 @@ impl DbCmd {
     }
 }
 
-#[derive(Drop)]
+#[derive(Debug, PartialEq, Eq, Drop)]
 pub enum DbAns {
     Done,
     Rows(Listed<Listed<Text>>),
@@ -69,7 +69,7 @@ impl DbAns {
 }
 
 /// A call of a script.
-#[derive(Drop)]
+#[derive(Debug, PartialEq, Eq, Drop)]
 pub enum WebCall {
     Cache(CacheCall),
     /// The database's name, and the command.
@@ -91,7 +91,7 @@ impl WebCall {
 }
 
 /// The answer to a call of a script.
-#[derive(Drop)]
+#[derive(Debug, PartialEq, Eq, Drop)]
 pub enum WebAns {
     Cache(CacheAns),
     Db(DbAns),

@@ -5,7 +5,7 @@ use crate::{Boxed, Listed, NoMemory, Text};
 use std::alloc::Global;
 
 /// A datum: a value that may be kept in a cache.
-#[derive(Drop)]
+#[derive(Debug, PartialEq, Eq, Drop)]
 pub enum Datum {
     Int(i64),
     Bool(bool),
@@ -64,7 +64,7 @@ fn copy_data(alloc: Global, items: &Listed<Datum>) -> Result<Listed<Datum>, NoMe
 }
 
 /// The description of a datum: its type, as `Web.Cache.ty` has it.
-#[derive(Drop)]
+#[derive(Debug, PartialEq, Eq, Drop)]
 pub enum Desc {
     Int,
     Bool,

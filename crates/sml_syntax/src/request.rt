@@ -6,7 +6,7 @@ use crate::{Listed, NoMemory, Text};
 use std::alloc::Global;
 
 /// The pairs of a form, in order.
-#[derive(Drop)]
+#[derive(Debug, PartialEq, Eq, Drop)]
 pub struct FormVars {
     pub pairs: Listed<(Text, Text)>,
 }
@@ -21,7 +21,7 @@ impl FormVars {
     }
 }
 
-#[derive(Drop)]
+#[derive(Debug, PartialEq, Eq, Drop)]
 pub struct Request {
     pub path: Text,
     pub form: FormVars,
@@ -41,7 +41,7 @@ impl Request {
     }
 }
 
-#[derive(Drop)]
+#[derive(Debug, PartialEq, Eq, Drop)]
 pub enum Reply {
     Finished {
         status: u16,

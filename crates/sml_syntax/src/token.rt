@@ -5,7 +5,7 @@ use crate::{NoMemory, Span, Text};
 use std::alloc::Global;
 
 /// A token with its place.
-#[derive(Drop)]
+#[derive(Debug, PartialEq, Eq, Drop)]
 pub struct Token {
     pub span: Span,
     pub form: TokenForm,
@@ -22,7 +22,7 @@ impl Token {
     }
 }
 
-#[derive(Drop)]
+#[derive(Debug, PartialEq, Eq, Drop)]
 pub enum TokenForm {
     Int(i64),
     Char(u8),

@@ -23,14 +23,14 @@ impl Span {
 
 /// A type.
 #[cycle(types)]
-#[derive(Drop)]
+#[derive(PartialEq, Eq, Drop)]
 pub struct Ty {
     pub span: Span,
     pub form: TyForm,
 }
 
 #[cycle(types)]
-#[derive(Drop)]
+#[derive(PartialEq, Eq, Drop)]
 pub enum TyForm {
     /// A type variable with its prime.
     Var(Text),
@@ -42,14 +42,14 @@ pub enum TyForm {
 
 /// A pattern.
 #[cycle(patterns)]
-#[derive(Drop)]
+#[derive(PartialEq, Eq, Drop)]
 pub struct Pat {
     pub span: Span,
     pub form: PatForm,
 }
 
 #[cycle(patterns)]
-#[derive(Drop)]
+#[derive(PartialEq, Eq, Drop)]
 pub enum PatForm {
     /// `_`
     Any,
@@ -68,7 +68,7 @@ pub enum PatForm {
 
 /// An expression.
 #[cycle(programs)]
-#[derive(Drop)]
+#[derive(PartialEq, Eq, Drop)]
 pub struct Exp {
     pub span: Span,
     pub form: ExpForm,
@@ -76,7 +76,7 @@ pub struct Exp {
 
 /// Derived forms such as `if` and lists stay as they are written.
 #[cycle(programs)]
-#[derive(Drop)]
+#[derive(PartialEq, Eq, Drop)]
 pub enum ExpForm {
     Int(i64),
     Char(u8),
@@ -106,7 +106,7 @@ pub enum ExpForm {
 
 /// `pat => exp`
 #[cycle(programs)]
-#[derive(Drop)]
+#[derive(PartialEq, Eq, Drop)]
 pub struct Rule {
     pub pat: Pat,
     pub body: Exp,
@@ -114,7 +114,7 @@ pub struct Rule {
 
 /// A piece of a quotation.
 #[cycle(programs)]
-#[derive(Drop)]
+#[derive(PartialEq, Eq, Drop)]
 pub enum Piece {
     Plain(Text),
     Anti(Exp),
@@ -122,14 +122,14 @@ pub enum Piece {
 
 /// A declaration.
 #[cycle(programs)]
-#[derive(Drop)]
+#[derive(PartialEq, Eq, Drop)]
 pub struct Dec {
     pub span: Span,
     pub form: DecForm,
 }
 
 #[cycle(programs)]
-#[derive(Drop)]
+#[derive(PartialEq, Eq, Drop)]
 pub enum DecForm {
     /// `val pat = exp and ..`
     Val(Listed<(Pat, Exp)>),
@@ -145,7 +145,7 @@ pub enum DecForm {
 }
 
 /// A program: its top-level items in order.
-#[derive(Drop)]
+#[derive(PartialEq, Eq, Drop)]
 pub struct Program {
     pub items: Listed<Dec>,
 }

@@ -55,9 +55,9 @@ impl Bound {
         ensures { IfOk result (λ copy. copy ≡ self.now) }
     {
         match self {
-            Bound::Val(value) => Ok(Bound::Val(value.try_copy(alloc)?)),
-            Bound::Con(applied) => Ok(Bound::Con(*applied)),
-            Bound::Exn(number, applied) => Ok(Bound::Exn(*number, *applied)),
+            Bound::Variable(value) => Ok(Bound::Variable(value.try_copy(alloc)?)),
+            Bound::Constructor(applied) => Ok(Bound::Constructor(*applied)),
+            Bound::Exception(number, applied) => Ok(Bound::Exception(*number, *applied)),
         }
     }
 }
