@@ -1,5 +1,8 @@
 // Caches, and the calls on them.
-use crate::{Datum, Desc, Text};
+ghost use Rattle.std.specs.Prelude.{◌≡◌, IfOk};
+
+use crate::{Datum, Desc, NoMemory, Text};
+use std::alloc::Global;
 
 /// How long rows stay, and how many: `used` is true for `WhileUsed` and false for `TimeOut`.
 #[derive(Clone, Copy, Debug, PartialEq, Eq)]
@@ -11,8 +14,17 @@ pub struct Kind {
     pub size: Option<u64>,
 }
 
+impl Kind {
+    /// Takes no memory.
+    pub fn try_copy(&self, _: Global) -> Result<Kind, NoMemory>
+        ensures { IfOk result (λ copy. copy ≡ self.now) }
+    {
+        Ok(*self)
+    }
+}
+
 /// What tells one cache from another.
-#[derive(Drop)]
+#[derive(Debug, PartialEq, Eq, Drop)]
 pub struct CacheId {
     pub name: Text,
     pub key: Desc,
@@ -20,7 +32,20 @@ pub struct CacheId {
     pub kind: Kind,
 }
 
-#[derive(Drop)]
+impl CacheId {
+    pub fn try_copy(&self, alloc: Global) -> Result<CacheId, NoMemory>
+        ensures { IfOk result (λ copy. copy ≡ self.now) }
+    {
+        Ok(CacheId {
+            name: self.name.try_copy(alloc)?,
+            key: self.key.try_copy(alloc)?,
+            value: self.value.try_copy(alloc)?,
+            kind: self.kind,
+        })
+    }
+}
+
+#[derive(Debug, PartialEq, Eq, Drop)]
 pub enum CacheOp {
     /// The key.
     Look(Datum),
@@ -29,13 +54,39 @@ pub enum CacheOp {
     Flush,
 }
 
-#[derive(Drop)]
+impl CacheOp {
+    pub fn try_copy(&self, alloc: Global) -> Result<CacheOp, NoMemory>
+        ensures { IfOk result (λ copy. copy ≡ self.now) }
+    {
+        match self {
+            CacheOp::Look(key) => Ok(CacheOp::Look(key.try_copy(alloc)?)),
+            CacheOp::Put(key, value) => {
+                let key = key.try_copy(alloc)?;
+                Ok(CacheOp::Put(key, value.try_copy(alloc)?))
+            }
+            CacheOp::Flush => Ok(CacheOp::Flush),
+        }
+    }
+}
+
+#[derive(Debug, PartialEq, Eq, Drop)]
 pub struct CacheCall {
     pub id: CacheId,
     pub op: CacheOp,
 }
 
-#[derive(Drop)]
+impl CacheCall {
+    pub fn try_copy(&self, alloc: Global) -> Result<CacheCall, NoMemory>
+        ensures { IfOk result (λ copy. copy ≡ self.now) }
+    {
+        Ok(CacheCall {
+            id: self.id.try_copy(alloc)?,
+            op: self.op.try_copy(alloc)?,
+        })
+    }
+}
+
+#[derive(Debug, PartialEq, Eq, Drop)]
 pub enum CacheAns {
     Found(Datum),
     Absent,
@@ -44,4 +95,18 @@ pub enum CacheAns {
     Flushed,
     /// No further cache has room in its group.
     Full,
+}
+
+impl CacheAns {
+    pub fn try_copy(&self, alloc: Global) -> Result<CacheAns, NoMemory>
+        ensures { IfOk result (λ copy. copy ≡ self.now) }
+    {
+        match self {
+            CacheAns::Found(value) => Ok(CacheAns::Found(value.try_copy(alloc)?)),
+            CacheAns::Absent => Ok(CacheAns::Absent),
+            CacheAns::Fresh(fresh) => Ok(CacheAns::Fresh(*fresh)),
+            CacheAns::Flushed => Ok(CacheAns::Flushed),
+            CacheAns::Full => Ok(CacheAns::Full),
+        }
+    }
 }

@@ -1,8 +1,12 @@
 // Database commands, and all calls that a script makes.
-use crate::{CacheAns, CacheCall, Listed, Text};
+ghost use Rattle.std.specs.Prelude.{◌≡◌, IfOk};
+
+use crate::copy::copy_text_rows;
+use crate::{CacheAns, CacheCall, Listed, NoMemory, Text};
+use std::alloc::Global;
 
 /// A statement, with its table first.
-#[derive(Drop)]
+#[derive(Debug, PartialEq, Eq, Drop)]
 pub enum DbCmd {
     Create(Text),
     /// A key and a value.
@@ -14,7 +18,31 @@ pub enum DbCmd {
     All(Text),
 }
 
-#[derive(Drop)]
+impl DbCmd {
+    pub fn try_copy(&self, alloc: Global) -> Result<DbCmd, NoMemory>
+        ensures { IfOk result (λ copy. copy ≡ self.now) }
+    {
+        match self {
+            DbCmd::Create(table) => Ok(DbCmd::Create(table.try_copy(alloc)?)),
+            DbCmd::Insert(table, key, value) => {
+                let table = table.try_copy(alloc)?;
+                let key = key.try_copy(alloc)?;
+                Ok(DbCmd::Insert(table, key, value.try_copy(alloc)?))
+            }
+            DbCmd::Delete(table, key) => {
+                let table = table.try_copy(alloc)?;
+                Ok(DbCmd::Delete(table, key.try_copy(alloc)?))
+            }
+            DbCmd::One(table, key) => {
+                let table = table.try_copy(alloc)?;
+                Ok(DbCmd::One(table, key.try_copy(alloc)?))
+            }
+            DbCmd::All(table) => Ok(DbCmd::All(table.try_copy(alloc)?)),
+        }
+    }
+}
+
+#[derive(Debug, PartialEq, Eq, Drop)]
 pub enum DbAns {
     Done,
     Rows(Listed<Listed<Text>>),
@@ -25,17 +53,57 @@ pub enum DbAns {
     Fault(u64),
 }
 
+impl DbAns {
+    pub fn try_copy(&self, alloc: Global) -> Result<DbAns, NoMemory>
+        ensures { IfOk result (λ copy. copy ≡ self.now) }
+    {
+        match self {
+            DbAns::Done => Ok(DbAns::Done),
+            DbAns::Rows(rows) => Ok(DbAns::Rows(copy_text_rows(alloc, rows)?)),
+            DbAns::NoTable => Ok(DbAns::NoTable),
+            DbAns::TableStands => Ok(DbAns::TableStands),
+            DbAns::KeyStands => Ok(DbAns::KeyStands),
+            DbAns::Fault(count) => Ok(DbAns::Fault(*count)),
+        }
+    }
+}
+
 /// A call of a script.
-#[derive(Drop)]
+#[derive(Debug, PartialEq, Eq, Drop)]
 pub enum WebCall {
     Cache(CacheCall),
     /// The database's name, and the command.
     Db(Text, DbCmd),
 }
 
+impl WebCall {
+    pub fn try_copy(&self, alloc: Global) -> Result<WebCall, NoMemory>
+        ensures { IfOk result (λ copy. copy ≡ self.now) }
+    {
+        match self {
+            WebCall::Cache(call) => Ok(WebCall::Cache(call.try_copy(alloc)?)),
+            WebCall::Db(name, command) => {
+                let name = name.try_copy(alloc)?;
+                Ok(WebCall::Db(name, command.try_copy(alloc)?))
+            }
+        }
+    }
+}
+
 /// The answer to a call of a script.
-#[derive(Drop)]
+#[derive(Debug, PartialEq, Eq, Drop)]
 pub enum WebAns {
     Cache(CacheAns),
     Db(DbAns),
+}
+
+impl WebAns {
+    pub fn try_copy(&self, alloc: Global) -> Result<WebAns, NoMemory>
+        ensures { IfOk result (λ copy. copy ≡ self.now) }
+    {
+        match self {
+            WebAns::Cache(answer) => Ok(WebAns::Cache(answer.try_copy(alloc)?)),
+            WebAns::Db(answer) => Ok(WebAns::Db(answer.try_copy(alloc)?)),
+        }
+    }
 }

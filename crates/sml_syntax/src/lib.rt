@@ -3,6 +3,7 @@
 
 mod boxed;
 mod cache;
+mod copy;
 mod database;
 mod datum;
 mod listed;

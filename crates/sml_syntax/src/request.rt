@@ -1,13 +1,27 @@
 // Requests and replies.
-use crate::{Listed, Text};
+ghost use Rattle.std.specs.Prelude.{◌≡◌, IfOk};
+
+use crate::copy::copy_text_pairs;
+use crate::{Listed, NoMemory, Text};
+use std::alloc::Global;
 
 /// The pairs of a form, in order.
-#[derive(Drop)]
+#[derive(Debug, PartialEq, Eq, Drop)]
 pub struct FormVars {
     pub pairs: Listed<(Text, Text)>,
 }
 
-#[derive(Drop)]
+impl FormVars {
+    pub fn try_copy(&self, alloc: Global) -> Result<FormVars, NoMemory>
+        ensures { IfOk result (λ copy. copy ≡ self.now) }
+    {
+        Ok(FormVars {
+            pairs: copy_text_pairs(alloc, &self.pairs)?,
+        })
+    }
+}
+
+#[derive(Debug, PartialEq, Eq, Drop)]
 pub struct Request {
     pub path: Text,
     pub form: FormVars,
@@ -15,7 +29,19 @@ pub struct Request {
     pub closing: bool,
 }
 
-#[derive(Drop)]
+impl Request {
+    pub fn try_copy(&self, alloc: Global) -> Result<Request, NoMemory>
+        ensures { IfOk result (λ copy. copy ≡ self.now) }
+    {
+        Ok(Request {
+            path: self.path.try_copy(alloc)?,
+            form: self.form.try_copy(alloc)?,
+            closing: self.closing,
+        })
+    }
+}
+
+#[derive(Debug, PartialEq, Eq, Drop)]
 pub enum Reply {
     Finished {
         status: u16,
@@ -23,6 +49,25 @@ pub enum Reply {
         body: Text,
     },
     Refused(Refusal),
+}
+
+impl Reply {
+    pub fn try_copy(&self, alloc: Global) -> Result<Reply, NoMemory>
+        ensures { IfOk result (λ copy. copy ≡ self.now) }
+    {
+        match self {
+            Reply::Finished {
+                status,
+                ctype,
+                body,
+            } => Ok(Reply::Finished {
+                status: *status,
+                ctype: ctype.try_copy(alloc)?,
+                body: body.try_copy(alloc)?,
+            }),
+            Reply::Refused(refusal) => Ok(Reply::Refused(*refusal)),
+        }
+    }
 }
 
 /// Why a request has no finished reply.
@@ -40,4 +85,13 @@ pub enum Refusal {
     /// No further cache has room in its group.
     Caches,
     NoMemory,
+}
+
+impl Refusal {
+    /// Takes no memory.
+    pub fn try_copy(&self, _: Global) -> Result<Refusal, NoMemory>
+        ensures { IfOk result (λ copy. copy ≡ self.now) }
+    {
+        Ok(*self)
+    }
 }

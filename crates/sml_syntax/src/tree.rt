@@ -1,5 +1,8 @@
 // The trees of programs, as the parser gives them.
-use crate::{Boxed, Listed, Text};
+ghost use Rattle.std.specs.Prelude.{◌≡◌, IfOk};
+
+use crate::{Boxed, Listed, NoMemory, Text};
+use std::alloc::Global;
 
 /// Where a node stands in its text, as byte offsets: the first byte, and the end of the last token.
 /// Parentheses around a node don't belong to it.
@@ -9,16 +12,25 @@ pub struct Span {
     pub to: u64,
 }
 
+impl Span {
+    /// Takes no memory.
+    pub fn try_copy(&self, _: Global) -> Result<Span, NoMemory>
+        ensures { IfOk result (λ copy. copy ≡ self.now) }
+    {
+        Ok(*self)
+    }
+}
+
 /// A type.
 #[cycle(types)]
-#[derive(Drop)]
+#[derive(PartialEq, Eq, Drop)]
 pub struct Ty {
     pub span: Span,
     pub form: TyForm,
 }
 
 #[cycle(types)]
-#[derive(Drop)]
+#[derive(PartialEq, Eq, Drop)]
 pub enum TyForm {
     /// A type variable with its prime.
     Var(Text),
@@ -30,14 +42,14 @@ pub enum TyForm {
 
 /// A pattern.
 #[cycle(patterns)]
-#[derive(Drop)]
+#[derive(PartialEq, Eq, Drop)]
 pub struct Pat {
     pub span: Span,
     pub form: PatForm,
 }
 
 #[cycle(patterns)]
-#[derive(Drop)]
+#[derive(PartialEq, Eq, Drop)]
 pub enum PatForm {
     /// `_`
     Any,
@@ -56,7 +68,7 @@ pub enum PatForm {
 
 /// An expression.
 #[cycle(programs)]
-#[derive(Drop)]
+#[derive(PartialEq, Eq, Drop)]
 pub struct Exp {
     pub span: Span,
     pub form: ExpForm,
@@ -64,7 +76,7 @@ pub struct Exp {
 
 /// Derived forms such as `if` and lists stay as they are written.
 #[cycle(programs)]
-#[derive(Drop)]
+#[derive(PartialEq, Eq, Drop)]
 pub enum ExpForm {
     Int(i64),
     Char(u8),
@@ -94,7 +106,7 @@ pub enum ExpForm {
 
 /// `pat => exp`
 #[cycle(programs)]
-#[derive(Drop)]
+#[derive(PartialEq, Eq, Drop)]
 pub struct Rule {
     pub pat: Pat,
     pub body: Exp,
@@ -102,7 +114,7 @@ pub struct Rule {
 
 /// A piece of a quotation.
 #[cycle(programs)]
-#[derive(Drop)]
+#[derive(PartialEq, Eq, Drop)]
 pub enum Piece {
     Plain(Text),
     Anti(Exp),
@@ -110,14 +122,14 @@ pub enum Piece {
 
 /// A declaration.
 #[cycle(programs)]
-#[derive(Drop)]
+#[derive(PartialEq, Eq, Drop)]
 pub struct Dec {
     pub span: Span,
     pub form: DecForm,
 }
 
 #[cycle(programs)]
-#[derive(Drop)]
+#[derive(PartialEq, Eq, Drop)]
 pub enum DecForm {
     /// `val pat = exp and ..`
     Val(Listed<(Pat, Exp)>),
@@ -133,7 +145,7 @@ pub enum DecForm {
 }
 
 /// A program: its top-level items in order.
-#[derive(Drop)]
+#[derive(PartialEq, Eq, Drop)]
 pub struct Program {
     pub items: Listed<Dec>,
 }

@@ -2,7 +2,7 @@
 use crate::{Boxed, CacheId, Desc, Listed, Rule, Text};
 
 #[cycle(values)]
-#[derive(Drop)]
+#[derive(PartialEq, Eq, Drop)]
 pub enum Value {
     Int(i64),
     Char(u8),
@@ -26,7 +26,7 @@ pub enum Value {
 /// A function: its rules, what the names free in it stand for, and the functions of its own
 /// declaration, which it may call.
 #[cycle(values)]
-#[derive(Drop)]
+#[derive(PartialEq, Eq, Drop)]
 pub struct Closure {
     pub rules: Listed<Rule>,
     pub env: Listed<(Text, Bound)>,
@@ -35,7 +35,7 @@ pub struct Closure {
 
 /// What a name stands for.
 #[cycle(values)]
-#[derive(Drop)]
+#[derive(PartialEq, Eq, Drop)]
 pub enum Bound {
     Variable(Value),
     /// A constructor of a datatype, and whether it takes an argument.
