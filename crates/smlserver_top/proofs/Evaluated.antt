@@ -3,6 +3,7 @@ use Rattle.std.proofs.Common.{◌≡◌, ℕ, zero, suc, ◌+◌, ◌*◌, ◌<�
 use Rattle.std.specs.Prelude.{nat_lt, if◌then◌else◌}
 use Rattle.std.specs.Fmt.{decimal}
 use Rattle.std.proofs.lemmas.Bool.Decides.{nat_tests}
+use Rattle.std.proofs.lemmas.Nat.{mul-le}
 use Rattle.sml_syntax.specs.declared.tree.Exp.{Exp, out-Exp, roll-Exp, out-roll-Exp}
 use Rattle.sml_syntax.specs.declared.tree.ExpForm.{ExpForm, roll-ExpForm, out-ExpForm, out-roll-ExpForm}
 use Rattle.sml_syntax.specs.declared.tree.Dec.{Dec, out-Dec, roll-Dec, out-roll-Dec}
@@ -112,7 +113,7 @@ infix_yields name a b x y w c e ya yb p = app_yields name (exp_of (ExpForm-F.Tup
 
 -- a product of factors of at most four digits has 64 bits
 small_product : (m n : ℕ) → m ≤ 9999 → n ≤ 9999 → m * n < 2 ^ 63
-small_product m n a b = let l : m * n ≤ 9999 * 9999 = mul-mono-≤ a b in omega (arith, l)
+small_product m n a b = let l : m * n ≤ 9999 * 9999 = mul-le m n 9999 9999 a b in omega (arith, l)
 
 part_yields : (part : Part) → IsSmall part → Yields (part_exp part) (text_value (text_of_part part))
 part_yields (Plain text) l = text_yields text
