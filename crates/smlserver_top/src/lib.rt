@@ -2,6 +2,7 @@
 #![tactic(auto)]
 
 mod compile;
+mod machine;
 mod page;
 mod part;
 mod project;

@@ -1,0 +1,27 @@
+// What holds of the definitions.
+ghost use Rattle.std.specs.Prelude.{◌≡◌, ◌≢◌, ◌++◌, ◌<◌, ◌^◌, List, ℕ, length, Some};
+ghost use Rattle.std.specs.List.{All};
+ghost use Rattle.kam_code.specs.declared.code.Code.{Code};
+ghost use Rattle.kam_code.specs.State.{Region, State};
+ghost use Rattle.kam_code.specs.Layout.{text_words, text_from};
+ghost use Rattle.kam_code.specs.Step.{End, Ends, Stuck, region_words, with_more, pointer, text_behind, steps};
+
+/// A text that is laid out is read back, whatever follows it.
+pub fn text_is_read_back()
+    ensures { (text back : List ℕ) → All (λ b. b < 256) text → text_from (text_words text ++ back) ≡ Some text }
+{}
+
+/// A text that is made in a region lies behind the pointer to the region's end.
+pub fn text_is_made()
+    ensures { (serial : ℕ) (words text : List ℕ) (regions : List Region) → All (λ b. b < 256) text → region_words serial regions ≡ Some words → length words < 2 ^ 32 → text_behind (pointer serial (length words)) (with_more serial (text_words text) regions) ≡ Some text }
+{}
+
+/// A text stays where it lies when a region grows.
+pub fn text_stays()
+    ensures { (p serial : ℕ) (more text : List ℕ) (regions : List Region) → text_behind p regions ≡ Some text → text_behind p (with_more serial more regions) ≡ Some text }
+{}
+
+/// Where a run ends, no state before its end lacks a step.
+pub fn ended_run_lacks_no_step()
+    ensures { (code : Code) (state final : State) (end : End) (n m : ℕ) → steps code n state ≡ Ends end final → steps code m state ≢ Stuck }
+{}
