@@ -1,13 +1,12 @@
 -- The parts of a script are few, plain and small.
-use Rattle.std.proofs.Common.{◌≡◌, ℕ, ◌+◌, ◌<◌, ◌≤◌, ◌^◌, List, [], ◌∷◌, ◌++◌, length, subst, sym, ap, arith, length-append}
+use Rattle.std.proofs.Common.{◌≡◌, ℕ, ◌≤◌, List, [], ◌∷◌, ◌++◌, length, subst, sym, ap, arith, length-append}
 use Rattle.std.specs.Prelude.{codes}
 use Rattle.std.proofs.lemmas.Int.Digits.{digits_value-lt}
-use Rattle.std.specs.Str.Parse.{digits_value}
 use Rattle.smlserver_top.specs.declared.part.Part.{Part}
 use Rattle.smlserver_top.specs.declared.part.Part.TheVariants.{Plain, Product}
 use Rattle.smlserver_top.specs.Parts.{ArePlain, IsSmall, AreSmall, AreFew}
 use Rattle.smlserver_top.specs.Spelling.{Spaced}
-use Rattle.smlserver_top.specs.Script.{quoted, IsLiteral, PartTokens, JoinedTokens, ArgTokens, Alone, Between, IsScript}
+use Rattle.smlserver_top.specs.Script.{IsLiteral, PartTokens, JoinedTokens, ArgTokens, Alone, Between, IsScript}
 
 -- a token is no longer than the text
 abbrev pub AreShort : ℕ → List (List ℕ) → Type 0

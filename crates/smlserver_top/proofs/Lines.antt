@@ -6,7 +6,7 @@ use Rattle.std.specs.Option.{option_copied}
 use Rattle.std.proofs.lemmas.Bool.{eqb-true}
 use Rattle.smlserver_top.specs.Reading.{after}
 use Rattle.smlserver_top.specs.Spelling.{begins_with}
-use Rattle.smlserver_top.specs.Project.{is_path, is_file_byte, has_parent, is_file_name, IsLineEnd, IsProject}
+use Rattle.smlserver_top.specs.Project.{is_path, is_file_byte, is_file_name, IsLineEnd, IsProject}
 use Rattle.smlserver_top.specs.Lines.{is_line_end, first_lines, name_split, named, script_file}
 use Rattle.smlserver_top.proofs.Options.{chosen, split_and, bind_some, after-append, after_is, then_some}
 

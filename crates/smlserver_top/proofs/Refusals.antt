@@ -1,11 +1,11 @@
 -- Files that tell what they hold lead to one refusal at most.
-use Rattle.std.proofs.Common.{◌≡◌, ◌⊎◌, ℕ, ◌<◌, ◌≤◌, List, [], ◌∷◌, length, Option, Some, None, refl, ap, sym, ◌∙◌, inl, inr, subst, arith}
+use Rattle.std.proofs.Common.{◌≡◌, ◌⊎◌, ℕ, List, length, Option, Some, None, ap, sym, ◌∙◌, inl, inr, subst, arith}
 use Rattle.outside_world.specs.Told.{Rose, Contents, LacksFile}
 use Rattle.smlserver_top.specs.declared.page.Reason.{Reason}
 use Rattle.smlserver_top.specs.declared.page.Reason.TheVariants.{FileFault, NotBuilt}
 use Rattle.smlserver_top.specs.Project.{IsProject}
 use Rattle.smlserver_top.specs.Words.{IsPageCommand, AreBadWords}
-use Rattle.smlserver_top.specs.Page.{HoldsText, HoldsOther, HasScript, HasParts, LeadsTo, IsPage, IsAskedFor, IsBadProject, IsBadScript, IsNotBuilt, IsRefused, IsStatus, AreTold, bad_words_line, refusal_line, not_built_line}
+use Rattle.smlserver_top.specs.Page.{HoldsText, HoldsOther, HasScript, HasParts, LeadsTo, IsPage, IsAskedFor, IsBadProject, IsNotBuilt, IsRefused, IsStatus, AreTold, bad_words_line, refusal_line, not_built_line}
 use Rattle.smlserver_top.proofs.Lines.{project_is_found}
 
 -- files that tell

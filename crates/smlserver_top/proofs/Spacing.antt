@@ -1,9 +1,9 @@
 -- Blanks and tokens on a text: what reading takes, and that it takes it again.
-use Rattle.std.proofs.Common.{◌≡◌, ℕ, true, false, Bool, cond, List, [], ◌∷◌, ◌++◌, Option, Some, None, refl, ap, sym, ◌∙◌, subst, append-nil}
+use Rattle.std.proofs.Common.{◌≡◌, ℕ, true, false, Bool, cond, List, [], ◌∷◌, ◌++◌, Some, None, refl, ap, sym, ◌∙◌, subst, append-nil}
 use Rattle.std.specs.Prelude.{◌==◌}
 use Rattle.std.specs.List.{list_all}
 use Rattle.smlserver_top.specs.Spelling.{is_blank, AreBlanks, Spaced}
-use Rattle.smlserver_top.specs.Reading.{without_blanks, after, token_at, tokens_at, ◌>>=◌}
+use Rattle.smlserver_top.specs.Reading.{without_blanks, after, token_at, tokens_at}
 use Rattle.smlserver_top.proofs.Options.{split_and, bind_some, after-append, after_is, then_some}
 
 -- blanks at the front

@@ -1,5 +1,5 @@
 -- The front of a text by `strip_prefix`, and the words of a page.
-use Rattle.std.proofs.Common.{◌≡◌, ℕ, ◌<◌, ◌≤◌, Bool, true, false, List, [], ◌∷◌, ◌++◌, length, map, get_or, Option, Some, None, Bor, refl, ap, sym, ◌∙◌, arith}
+use Rattle.std.proofs.Common.{◌≡◌, ℕ, ◌<◌, ◌≤◌, Bool, true, List, [], ◌∷◌, ◌++◌, length, map, get_or, Option, Some, None, Bor, refl, ap, sym, ◌∙◌, arith}
 use Rattle.std.specs.Prelude.{◌==◌, codes, MatchOption, is_some}
 use Rattle.smlserver_top.specs.Spelling.{begins_with}
 use Rattle.std.specs.Option.{option_copied}

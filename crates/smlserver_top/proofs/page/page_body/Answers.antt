@@ -1,5 +1,5 @@
 use Rattle.std.proofs.Common.{refl, ap, inl, inr, ◌∙◌, Err}
-use Rattle.smlserver_top.proofs.Bounds.{plain_parts, few_parts, small_parts}
+use Rattle.smlserver_top.proofs.Bounds.{plain_parts, small_parts}
 use Rattle.smlserver_top.proofs.PageLaws.{leads_to, bad_project, bad_script, is_page}
 use Rattle.smlserver_top.proofs.page.page_body.Goals as goal
 
