@@ -46,7 +46,7 @@ no_page : (at : Texts) (words : List (List ℕ)) (file body : List ℕ) → IsNo
 no_page at words file body (inl bad) page = leads_nowhere at words file page.file bad page.leads
 no_page at words file body (inr bad) page =
     let e = same_project at words page.file file page.leads bad.0 in
-    no_other at file page.script HasParts (subst (λ f. HoldsText (Some at) f page.script) e page.script_held) (page.parts, page.script_form) bad.1
+    no_other at file page.script HasParts (subst (λ f. HoldsText (Some at) f page.script) e page.script_held) (page.script_form.0, page.script_form.1) bad.1
 
 asks : (contents : Contents) (words : List (List ℕ)) (file : List ℕ) → IsNotBuilt contents words file → AreBadWords words → ⊥
 asks contents words file (inl bad) none = none file bad.0 bad.1

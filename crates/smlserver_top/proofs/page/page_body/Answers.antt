@@ -1,4 +1,5 @@
 use Rattle.std.proofs.Common.{refl, ap, inl, inr, ◌∙◌, Err}
+use Rattle.smlserver_top.specs.Parts.{text_of}
 use Rattle.smlserver_top.proofs.Bounds.{plain_parts, small_parts}
 use Rattle.smlserver_top.proofs.PageLaws.{leads_to, bad_project, bad_script, is_page}
 use Rattle.smlserver_top.proofs.page.page_body.Goals as goal
@@ -19,8 +20,8 @@ returns-in-Err-NotForm-clause-stop g c =
     (leads_to _ _ _ _ _ _ _ _ _ c.in-Some.ensures.found (c.in_ok-project-2.ensures.name ∙ c.in_ok-project.ensures) c.in_ok-project-2.ensures.text c.as_bytes.ensures c.in-Some-script_file.ensures.found (c.in_ok-file-2.ensures.name ∙ c.in_ok-file.ensures))
     c.in_ok-project-2.ensures.same c.in_ok-file-2.ensures.text c.as_bytes-2.ensures (c.in-Err-NotForm.ensures.not_form (ap Err c.in-Err-NotForm.field-0-is)))
 
-pub returns-in_ok-written-clause-page : goal.returns-in_ok-written-clause-page
-returns-in_ok-written-clause-page g c =
+pub returns-in-Ok-clause-page : goal.returns-in-Ok-clause-page
+returns-in-Ok-clause-page g c =
     is_page _ _ _ _ _ _ _ _
     (leads_to _ _ _ _ _ _ _ _ _ c.in-Some.ensures.found (c.in_ok-project-2.ensures.name ∙ c.in_ok-project.ensures) c.in_ok-project-2.ensures.text c.as_bytes.ensures c.in-Some-script_file.ensures.found (c.in_ok-file-2.ensures.name ∙ c.in_ok-file.ensures))
-    c.in_ok-project-2.ensures.same c.in_ok-file-2.ensures.text c.as_bytes-2.ensures c.in-Ok.ensures.found c.in_ok-written.ensures
+    c.in_ok-project-2.ensures.same c.in_ok-file-2.ensures.text c.as_bytes-2.ensures c.in-Ok.ensures.found (c.in_ok-written-in-Ok.ensures.body ∙ ap text_of c.deref.ensures.value)
