@@ -30,7 +30,16 @@ html_type = codes "text/html; charset=utf-8"
 -- the empty store: no references, an empty body, status 200 and the type of HTML
 abbrev pub start_state : List (List ℕ × List ℕ) → List (List ℕ) → List WebAns → EvalState
 start_state form databases answers = record {
-  form = form; databases = databases; references = []; body = []; status = 200; content_type = html_type; answers = answers; calls = []; count = 0 }
+  form = form;
+  databases = databases;
+  references = [];
+  body = [];
+  status = 200;
+  content_type = html_type;
+  answers = answers;
+  calls = [];
+  count = 0;
+}
 
 -- a packet of this name
 abbrev pub IsPacketOf : List ℕ → ValueLayer → Type 0

@@ -1,26 +1,26 @@
 -- What evaluating the tree of a script gives.
-use Rattle.std.proofs.Common.{◌≡◌, ℕ, zero, suc, ◌+◌, ◌*◌, ◌<◌, ◌≤◌, ◌^◌, ℤ, pos, Bool, true, List, [], ◌∷◌, ◌++◌, Option, Some, None, codes, length, refl, ap, sym, subst, ◌∙◌, arith, append_assoc, append-nil}
+use Rattle.std.proofs.Common.{◌≡◌, ℕ, zero, suc, ◌+◌, ◌*◌, ◌<◌, ◌≤◌, ◌^◌, ℤ, pos, true, List, [], ◌∷◌, ◌++◌, Some, codes, length, refl, ap, sym, subst, ◌∙◌, arith, append_assoc, append-nil}
 use Rattle.std.specs.Prelude.{nat_lt, if◌then◌else◌}
 use Rattle.std.specs.Fmt.{decimal}
 use Rattle.std.proofs.lemmas.Bool.Decides.{nat_tests}
 use Rattle.std.proofs.lemmas.Nat.{mul-le}
-use Rattle.sml_syntax.specs.declared.tree.Exp.{Exp, out-Exp, roll-Exp, out-roll-Exp}
-use Rattle.sml_syntax.specs.declared.tree.ExpForm.{ExpForm, roll-ExpForm, out-ExpForm, out-roll-ExpForm}
-use Rattle.sml_syntax.specs.declared.tree.Dec.{Dec, out-Dec, roll-Dec, out-roll-Dec}
-use Rattle.sml_syntax.specs.declared.tree.DecForm.{DecForm, roll-DecForm, out-DecForm, out-roll-DecForm}
-use Rattle.sml_syntax.specs.declared.tree.Pat.{Pat, out-Pat, roll-Pat, out-roll-Pat}
-use Rattle.sml_syntax.specs.declared.tree.PatForm.{PatForm, roll-PatForm, out-PatForm, out-roll-PatForm}
+use Rattle.sml_syntax.specs.declared.tree.Exp.{Exp, out-roll-Exp}
+use Rattle.sml_syntax.specs.declared.tree.ExpForm.{roll-ExpForm, out-ExpForm, out-roll-ExpForm}
+use Rattle.sml_syntax.specs.declared.tree.Dec.{out-roll-Dec}
+use Rattle.sml_syntax.specs.declared.tree.DecForm.{roll-DecForm, out-DecForm, out-roll-DecForm}
+use Rattle.sml_syntax.specs.declared.tree.Pat.{Pat, out-roll-Pat}
+use Rattle.sml_syntax.specs.declared.tree.PatForm.{roll-PatForm, out-PatForm, out-roll-PatForm}
 use Rattle.sml_syntax.specs.declared.tree.DecForm.TheOpen.{DecForm-F, ExpForm-F}
 use Rattle.sml_syntax.specs.declared.tree.PatForm.TheOpen.{PatForm-F}
 use Rattle.sml_syntax.specs.declared.value.Value.{Value, roll-Value, out-Value, out-roll-Value}
-use Rattle.sml_syntax.specs.declared.value.Bound.{Bound, roll-Bound, out-Bound, out-roll-Bound}
+use Rattle.sml_syntax.specs.declared.value.Bound.{roll-Bound, out-roll-Bound}
 use Rattle.sml_syntax.specs.declared.value.Bound.TheOpen.{Value-F, Bound-F}
-use Rattle.sml_syntax.specs.Layers.{ExpLayer, DecLayer, PatLayer, ValueLayer, form_of_exp, form_of_dec, form_of_pat, form_of_value}
-use Rattle.sml_syntax.specs.Values.{int_value, text_value, tuple_value, unit_value, prim_value, text_size, Env, bound_of}
-use Rattle.sml_syntax.specs.Outcome.{EvalState, Outcome, Done, Waits, then_do, counted}
-use Rattle.sml_syntax.specs.Primitives.{is_int, of_pair, times, concatenation, int_to_string, web_write, int_result, prim_result, basis}
-use Rattle.sml_syntax.specs.Evaluation.{eval, each_value, exp_result, bound_result, opened, application, match_pat, pat_result, binding, bound_more, eval_decs, bindings_result, with_dec, with_binding}
-use Rattle.sml_syntax.specs.Page.{PageOf, PageEnd, Finished, EndsAs, start_state, html_type}
+use Rattle.sml_syntax.specs.Layers.{ExpLayer, DecLayer, ValueLayer, form_of_exp, form_of_dec, form_of_pat, form_of_value}
+use Rattle.sml_syntax.specs.Values.{int_value, text_value, tuple_value, unit_value, prim_value, text_size, bound_of}
+use Rattle.sml_syntax.specs.Outcome.{EvalState, Outcome, Done, then_do, counted}
+use Rattle.sml_syntax.specs.Primitives.{of_pair, times, concatenation, int_to_string, web_write, int_result, prim_result, basis}
+use Rattle.sml_syntax.specs.Evaluation.{eval, each_value, exp_result, bound_result, opened, application, match_pat, pat_result, binding, bound_more, eval_decs, bindings_result, with_dec}
+use Rattle.sml_syntax.specs.Page.{PageOf, Finished, EndsAs, start_state, html_type}
 use Rattle.smlserver_top.specs.declared.part.Part.{Part}
 use Rattle.smlserver_top.specs.declared.part.Part.TheVariants.{Plain, Product}
 use Rattle.smlserver_top.specs.Parts.{text_of_part, text_of, IsSmall, AreSmall}
@@ -75,18 +75,18 @@ pair_gives a b x y ca cb n s ea eb =
 pair_yields : (a b : Exp) (x y : Value) → Yields a x → Yields b y → Yields (exp_of (ExpForm-F.Tuple (a ∷ b ∷ []))) (tuple_value (x ∷ y ∷ []))
 pair_yields a b x y ya yb = by_form (ExpForm-F.Tuple (a ∷ b ∷ [])) (tuple_value (x ∷ y ∷ [])) (ya.height + yb.height) (ya.cost + yb.cost + 2)
     (λ n s l.
-      ap (λ o. then_do o (λ vs s1. Done (tuple_value vs) (counted (length vs) s1))) (pair_gives a b x y ya.cost yb.cost n s (ya.gives n s (omega (arith, l))) (yb.gives n (counted ya.cost s) (omega (arith, l))))
-      ∙ ap (Done (tuple_value (x ∷ y ∷ []))) (ap (counted 2) (counted_twice ya.cost yb.cost s) ∙ counted_twice (ya.cost + yb.cost) 2 s))
+    ap (λ o. then_do o (λ vs s1. Done (tuple_value vs) (counted (length vs) s1))) (pair_gives a b x y ya.cost yb.cost n s (ya.gives n s (omega (arith, l))) (yb.gives n (counted ya.cost s) (omega (arith, l))))
+    ∙ ap (Done (tuple_value (x ∷ y ∷ []))) (ap (counted 2) (counted_twice ya.cost yb.cost s) ∙ counted_twice (ya.cost + yb.cost) 2 s))
 
 -- a primitive applied, where the value of its row is known at each state
 app_yields : (name : List ℕ) (e : Exp) (v w : Value) (c : ℕ) → Yields (name_exp name) (prim_value name) → Yields e v → ((s : EvalState) → prim_result name v s ≡ Done w (counted c s)) → Yields (app_exp (name_exp name) e) w
 app_yields name e v w c yf ye p = by_form (ExpForm-F.App (name_exp name) e) w (yf.height + ye.height) (yf.cost + ye.cost + 1 + c)
     (λ n s l.
-      ap (λ o. then_do o (λ g s1. then_do (eval n basis s1 e) (λ u s2. application (form_of_value g) u (counted 1 s2)))) (yf.gives n s (omega (arith, l)))
-      ∙ ap (λ o. then_do o (λ u s2. application (form_of_value (prim_value name)) u (counted 1 s2))) (ye.gives n (counted yf.cost s) (omega (arith, l)))
-      ∙ ap (λ g. application g v (counted 1 (counted ye.cost (counted yf.cost s)))) (out-roll-Value (Value-F.Prim name []))
-      ∙ p (counted 1 (counted ye.cost (counted yf.cost s)))
-      ∙ ap (Done w) (ap (counted c) (ap (counted 1) (counted_twice yf.cost ye.cost s) ∙ counted_twice (yf.cost + ye.cost) 1 s) ∙ counted_twice (yf.cost + ye.cost + 1) c s))
+    ap (λ o. then_do o (λ g s1. then_do (eval n basis s1 e) (λ u s2. application (form_of_value g) u (counted 1 s2)))) (yf.gives n s (omega (arith, l)))
+    ∙ ap (λ o. then_do o (λ u s2. application (form_of_value (prim_value name)) u (counted 1 s2))) (ye.gives n (counted yf.cost s) (omega (arith, l)))
+    ∙ ap (λ g. application g v (counted 1 (counted ye.cost (counted yf.cost s)))) (out-roll-Value (Value-F.Prim name []))
+    ∙ p (counted 1 (counted ye.cost (counted yf.cost s)))
+    ∙ ap (Done w) (ap (counted c) (ap (counted 1) (counted_twice yf.cost ye.cost s) ∙ counted_twice (yf.cost + ye.cost) 1 s) ∙ counted_twice (yf.cost + ye.cost + 1) c s))
 
 -- the two parts of a pair, opened
 pair_opens : (f : ValueLayer → ValueLayer → EvalState → Outcome Value) (a b : ValueLayer) (s : EvalState) → of_pair f (form_of_value (tuple_value (roll-Value a ∷ roll-Value b ∷ []))) s ≡ f a b s
@@ -119,17 +119,17 @@ part_yields : (part : Part) → IsSmall part → Yields (part_exp part) (text_va
 part_yields (Plain text) l = text_yields text
 part_yields (Product m n) l =
     app_yields (codes "Int.toString") (infix_exp (codes "*") (exp_of (ExpForm-F.Int (pos m))) (exp_of (ExpForm-F.Int (pos n)))) (int_value (pos (m * n))) (text_value (decimal (m * n))) (text_size (decimal (m * n)))
-      (name_yields (codes "Int.toString") refl)
-      (infix_yields (codes "*") (exp_of (ExpForm-F.Int (pos m))) (exp_of (ExpForm-F.Int (pos n))) (int_value (pos m)) (int_value (pos n)) (int_value (pos (m * n))) 0 refl (int_yields (pos m)) (int_yields (pos n)) (times_result m n (small_product m n l.0 l.1)))
-      (to_string_result (m * n))
+    (name_yields (codes "Int.toString") refl)
+    (infix_yields (codes "*") (exp_of (ExpForm-F.Int (pos m))) (exp_of (ExpForm-F.Int (pos n))) (int_value (pos m)) (int_value (pos n)) (int_value (pos (m * n))) 0 refl (int_yields (pos m)) (int_yields (pos n)) (times_result m n (small_product m n l.0 l.1)))
+    (to_string_result (m * n))
 
 joined_yields : (first : Exp) (text : List ℕ) (parts : List Part) → Yields first (text_value text) → AreSmall parts → Yields (joined_exp first parts) (text_value (text ++ text_of parts))
 joined_yields first text [] y small = subst (λ t. Yields first (text_value t)) (sym (append-nil text)) y
 joined_yields first text (part ∷ parts) y small =
     subst (λ t. Yields (joined_exp (infix_exp (codes "^") first (part_exp part)) parts) (text_value t)) (append_assoc text (text_of_part part) (text_of parts))
-      (joined_yields (infix_exp (codes "^") first (part_exp part)) (text ++ text_of_part part) parts
-        (infix_yields (codes "^") first (part_exp part) (text_value text) (text_value (text_of_part part)) (text_value (text ++ text_of_part part)) (text_size (text ++ text_of_part part)) refl y (part_yields part small.0) (concatenation_result text (text_of_part part)))
-        small.1)
+    (joined_yields (infix_exp (codes "^") first (part_exp part)) (text ++ text_of_part part) parts
+    (infix_yields (codes "^") first (part_exp part) (text_value text) (text_value (text_of_part part)) (text_value (text ++ text_of_part part)) (text_size (text ++ text_of_part part)) refl y (part_yields part small.0) (concatenation_result text (text_of_part part)))
+    small.1)
 
 -- what writing a text leaves
 abbrev written_in : List ℕ → EvalState → EvalState
@@ -170,7 +170,7 @@ binding_gives e text y n s l =
 
 dec_gives : (e : Exp) (text : List ℕ) (y : Yields e (text_value text)) (n : ℕ) (s : EvalState) → write_name.height + y.height ≤ n
     → eval_decs (suc (suc n)) basis s (dec_of (DecForm-F.Val (written_binding e ∷ [])) ∷ [])
-      ≡ Done basis (counted 1 (written_in text (counted (write_cost y.cost) (counted 1 (counted 1 (counted 1 s))))))
+    ≡ Done basis (counted 1 (written_in text (counted (write_cost y.cost) (counted 1 (counted 1 (counted 1 s))))))
 dec_gives e text y n s l =
     ap (λ d. with_dec (suc n) (bindings_result (suc n)) basis (counted 1 s) d []) (dec_opens (DecForm-F.Val (written_binding e ∷ [])))
     ∙ ap (λ o. then_do o (λ env1 s1. bindings_result (suc n) basis env1 s1 [] [])) (binding_gives e text y n (counted 1 (counted 1 s)) l)

@@ -7,7 +7,7 @@ use Rattle.smlserver_top.specs.declared.page.Reason.{Reason}
 use Rattle.smlserver_top.specs.declared.page.Reason.TheVariants.{FileFault, NotBuilt}
 use Rattle.smlserver_top.specs.declared.part.Part.{Part}
 use Rattle.sml_syntax.specs.declared.tree.Dec.{Dec}
-use Rattle.sml_syntax.specs.Page.{PageOf, PageEnd, Finished, html_type}
+use Rattle.sml_syntax.specs.Page.{PageOf, Finished, html_type}
 use Rattle.smlserver_top.specs.Script.{IsScript}
 use Rattle.smlserver_top.specs.Tree.{IsScriptOf}
 use Rattle.smlserver_top.specs.Project.{IsProject}

@@ -2,14 +2,14 @@
 use Rattle.std.specs.Prelude.{◌≡◌, ℕ, pos, List, [], ◌∷◌, codes}
 use Rattle.sml_syntax.specs.declared.tree.Span.{Span}
 use Rattle.sml_syntax.specs.declared.tree.Exp.{Exp, roll-Exp}
-use Rattle.sml_syntax.specs.declared.tree.ExpForm.{ExpForm, roll-ExpForm}
+use Rattle.sml_syntax.specs.declared.tree.ExpForm.{roll-ExpForm}
 use Rattle.sml_syntax.specs.declared.tree.Dec.{Dec, roll-Dec}
-use Rattle.sml_syntax.specs.declared.tree.DecForm.{DecForm, roll-DecForm}
+use Rattle.sml_syntax.specs.declared.tree.DecForm.{roll-DecForm}
 use Rattle.sml_syntax.specs.declared.tree.DecForm.TheOpen.{DecForm-F, ExpForm-F}
 use Rattle.sml_syntax.specs.declared.tree.Pat.{Pat, roll-Pat}
-use Rattle.sml_syntax.specs.declared.tree.PatForm.{PatForm, roll-PatForm}
+use Rattle.sml_syntax.specs.declared.tree.PatForm.{roll-PatForm}
 use Rattle.sml_syntax.specs.declared.tree.PatForm.TheOpen.{PatForm-F}
-use Rattle.sml_syntax.specs.Layers.{ExpLayer, DecLayer, PatLayer}
+use Rattle.sml_syntax.specs.Layers.{ExpLayer, DecLayer}
 use Rattle.smlserver_top.specs.declared.part.Part.{Part}
 use Rattle.smlserver_top.specs.declared.part.Part.TheVariants.{Plain, Product}
 use Rattle.smlserver_top.specs.Script.{IsScript}
