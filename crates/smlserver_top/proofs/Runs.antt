@@ -1,6 +1,6 @@
 -- The code of a script's parts writes what they stand for.
-use Rattle.std.proofs.Common.{◌≡◌, ℕ, zero, suc, ◌+◌, ◌*◌, ◌%◌, ◌^◌, ◌<◌, ◌≤◌, Bool, true, false, cond, List, [], ◌∷◌, ◌++◌, length, Option, Some, None, refl, ap, sym, ◌∙◌, subst, append_assoc, append-nil, arith, length-append}
-use Rattle.std.specs.Prelude.{nat_lt, nat_le, slice_get, ℤ, pos, ◌*ℤ◌, ◌&&◌}
+use Rattle.std.proofs.Common.{◌≡◌, ℕ, zero, suc, ◌+◌, ◌*◌, ◌%◌, ◌^◌, ◌<◌, ◌≤◌, Bool, true, false, cond, List, [], ◌∷◌, ◌++◌, length, Some, refl, ap, sym, ◌∙◌, subst, append_assoc, append-nil, arith, length-append}
+use Rattle.std.specs.Prelude.{nat_lt, slice_get, ℤ, pos, ◌*ℤ◌, ◌&&◌}
 use Rattle.std.specs.Fmt.{decimal}
 use Rattle.std.specs.List.{list_all}
 use Rattle.std.proofs.lemmas.Fmt.{decimal_by_steps, length-decimal-le}
@@ -15,7 +15,7 @@ use Rattle.kam_code.specs.declared.instr.Instr.TheVariants.{Const, Text, Mul, Te
 use Rattle.kam_code.specs.State.{State, start}
 use Rattle.kam_code.specs.Layout.{text_words}
 use Rattle.kam_code.specs.Word.{word_of, number_of, spelling}
-use Rattle.kam_code.specs.Step.{Halted, Next, Goes, Ends, Stuck, with_found, onward, pushed, overflow, thrown, computed, text_behind, text_made, act, step, and_then, steps, Writes, NeverStuck}
+use Rattle.kam_code.specs.Step.{Halted, Goes, Ends, with_found, onward, pushed, overflow, thrown, computed, text_behind, text_made, act, step, and_then, steps, Writes, NeverStuck}
 use Rattle.kam_code.proofs.Packed.{IsBytes, text_words_length}
 use Rattle.kam_code.proofs.Regions.{text_behind-with_more, text_behind-made}
 use Rattle.kam_code.proofs.Runs.{steps-suc, writes-never_stuck}
