@@ -1,5 +1,5 @@
 -- Runs as numbers of steps.
-use Rattle.std.proofs.Common.{◌≡◌, ℕ, List, zero, suc, refl, ap, sym, ◌∙◌}
+use Rattle.std.proofs.Common.{◌≡◌, ℕ, List, zero, suc, ap}
 use Rattle.kam_code.specs.declared.code.Code.{Code}
 use Rattle.kam_code.specs.State.{State, start}
 use Rattle.kam_code.specs.Step.{End, Halted, Next, Goes, Ends, Waits, Stuck, step, and_then, steps, Writes, NeverStuck}

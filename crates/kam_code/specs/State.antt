@@ -21,24 +21,28 @@ pub record Handler : Type 0 where
   pub closure : ℕ
   pub address : ℕ
 
--- the request's form and the names of the databases; the number of the next instruction; the stack,
--- how many of its words lie below the frame, and the frame's closure; the frames of the callers; the
--- live regions, the newest first, and how many were ever made, which is the newest serial; the
--- handlers; the body, the status and the content type so far; and the charge
+-- the machine between two steps
 pub record State : Type 0 where
+  -- the request's form, and the names of the databases
   pub form : List (List ℕ × List ℕ)
   pub databases : List (List ℕ)
+  -- the number of the next instruction
   pub address : ℕ
   pub stack : List ℕ
+  -- how many words of the stack lie below the frame, and the closure that runs
   pub base : ℕ
   pub closure : ℕ
+  -- what the calls saved, the newest first
   pub frames : List Frame
+  -- the live regions, the newest first, and how many were ever made, which is the newest serial
   pub regions : List Region
   pub made : ℕ
   pub handlers : List Handler
+  -- the page so far
   pub body : List ℕ
   pub status : ℕ
   pub content_type : List ℕ
+  -- the steps made and the words written into regions
   pub charge : ℕ
 
 -- the content type of a page that sets none

@@ -37,7 +37,7 @@ fn push_words(region: &mut Vec<u64>, bytes: &[u8], count: usize) -> Result<(), N
     Ok(())
 }
 
-/// Lays a text out behind the words that are there.
+/// Lays a text out behind the words that are there. Nothing is said of them after `NoMemory`.
 #[tactic(auto, unfolding(crate::specs::Layout::text_words))]
 pub fn push_text(region: &mut Vec<u64>, text: &[u8]) -> Result<(), NoMemory>
     ensures { OnOk result (region.new.items ≡ region.old.items ++ text_words text.now) }
@@ -57,7 +57,7 @@ fn push_bytes(bytes: &mut Vec<u8>, words: &[u64]) -> Result<(), NoMemory>
 }
 
 /// Adds the text whose length is the first of the words, and answers whether it lies there whole.
-/// Where it doesn't, nothing is added.
+/// Where it doesn't, nothing is added. Nothing is said of the bytes after `NoMemory`.
 #[tactic(auto, unfolding(crate::specs::Layout::text_from))]
 pub fn append_text(bytes: &mut Vec<u8>, words: &[u64]) -> Result<bool, NoMemory>
     ensures whole { IfOk result (λ whole. whole ≡ is_some (text_from words.now)) }

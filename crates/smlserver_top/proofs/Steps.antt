@@ -10,7 +10,7 @@ use Rattle.kam_code.proofs.Runs.{steps-suc}
 use Rattle.smlserver_top.specs.declared.machine.Stop.{Stop}
 use Rattle.smlserver_top.specs.declared.machine.Stop.TheVariants.{Going as going, Halted as halted, Raised as raised, Stuck as stuck}
 use Rattle.smlserver_top.specs.OneRegion.{global}
-use Rattle.smlserver_top.specs.Stopped.{next_of}
+use Rattle.smlserver_top.specs.Stop.{next_of}
 
 -- words made in the global region, where there is room
 pub made_in_global : (words more : List ℕ) (state : State) (f : ℕ → State → Next) → state.regions ≡ global words → length words + length more < 2 ^ 32 → made_in 1 more state f ≡ f (2 ^ 32 + length words) (grown 1 more state)

@@ -93,7 +93,7 @@ fn compile(alloc: Global, parts: &[Part]) -> Result<Code, NoMemory>
     Ok(code)
 }
 
-/// What the parts write.
+/// What the parts write: the body at the halt that the steps of their code come to.
 pub(crate) fn written(alloc: Global, parts: &[Part]) -> Result<Text, NoMemory>
     requires plain { ArePlain parts.now }
     requires small { AreSmall parts.now }

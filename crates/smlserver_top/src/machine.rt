@@ -6,7 +6,7 @@ ghost use Rattle.kam_code.specs.Word.{spelling};
 ghost use Rattle.kam_code.specs.Layout.{text_words};
 ghost use Rattle.kam_code.specs.Step.{Goes, onward, pushed, grown, text_made, thrown, text_behind, act, step, steps};
 ghost use Rattle.smlserver_top.specs.OneRegion.{global};
-ghost use Rattle.smlserver_top.specs.Stopped.{next_of};
+ghost use Rattle.smlserver_top.specs.Stop.{next_of};
 
 use kam_code::{Code, Instr, append_text, push_text};
 use sml_syntax::{NoMemory, Text};
@@ -78,7 +78,7 @@ impl Machine {
 
     // Goes on to the next instruction.
     fn go_on(&mut self) -> Stop
-        requires { self.old.address < 2 ^ 63 }
+        requires { self.old.address < usize.MAX }
         ensures { next_of result self.new ≡ Goes (onward self.old.stack self.old) }
     {
         self.address += 1;
@@ -87,7 +87,7 @@ impl Machine {
 
     // Puts a word on the stack.
     fn push(&mut self, word: u64) -> Result<Stop, NoMemory>
-        requires { self.old.address < 2 ^ 63 }
+        requires { self.old.address < usize.MAX }
         ensures { IfOk result (λ stop. next_of stop self.new ≡ pushed word self.old.stack self.old) }
     {
         self.stack.push(word)?;
@@ -113,7 +113,7 @@ impl Machine {
     // Makes a text in the region of that serial, and puts its pointer on the stack.
     #[tactic(auto, using(kam_code::proofs::Packed::text_words_length, crate::proofs::Steps::text_made_global))]
     fn make_text(&mut self, serial: u64, text: &[u8]) -> Result<Stop, NoMemory>
-        requires { self.old.address < 2 ^ 63 }
+        requires { self.old.address < usize.MAX }
         ensures { IfOk result (λ stop. next_of stop self.new ≡ text_made serial text.now self.old.stack self.old) }
     {
         let place = self.region.len() as u64;
@@ -139,7 +139,7 @@ impl Machine {
     // Raises an exception without argument, which ends the run.
     #[tactic(auto, using(crate::proofs::Steps::thrown_global))]
     fn throw(&mut self, alloc: Global, code: &Code, number: u64) -> Result<Stop, NoMemory>
-        requires { self.old.address < 2 ^ 63 }
+        requires { self.old.address < usize.MAX }
         ensures { IfOk result (λ stop. next_of stop self.new ≡ thrown code.now number self.old.stack self.old) }
     {
         if self.region.len() as u64 + 2 >= LIMIT {
@@ -184,7 +184,7 @@ fn append_behind(region: &[u64], p: u64, bytes: &mut Vec<u8>) -> Result<bool, No
 // One method an instruction.
 impl Machine {
     fn text(&mut self, code: &Code, number: u64) -> Result<Stop, NoMemory>
-        requires { self.old.address < 2 ^ 63 }
+        requires { self.old.address < usize.MAX }
         ensures { IfOk result (λ stop. next_of stop self.new ≡ act code.now (Instr.Text number) self.old) }
     {
         let Some(serial) = self.pop() else {
@@ -197,7 +197,7 @@ impl Machine {
     }
 
     fn multiply(&mut self, alloc: Global, code: &Code) -> Result<Stop, NoMemory>
-        requires { self.old.address < 2 ^ 63 }
+        requires { self.old.address < usize.MAX }
         ensures { IfOk result (λ stop. next_of stop self.new ≡ act code.now Instr.Mul self.old) }
     {
         let Some(b) = self.pop() else {
@@ -213,7 +213,7 @@ impl Machine {
     }
 
     fn spell(&mut self, alloc: Global, code: &Code) -> Result<Stop, NoMemory>
-        requires { self.old.address < 2 ^ 63 }
+        requires { self.old.address < usize.MAX }
         ensures { IfOk result (λ stop. next_of stop self.new ≡ act code.now Instr.TextFromInt self.old) }
     {
         let Some(serial) = self.pop() else {
@@ -227,7 +227,7 @@ impl Machine {
     }
 
     fn join(&mut self, alloc: Global, code: &Code) -> Result<Stop, NoMemory>
-        requires { self.old.address < 2 ^ 63 }
+        requires { self.old.address < usize.MAX }
         ensures { IfOk result (λ stop. next_of stop self.new ≡ act code.now Instr.TextCat self.old) }
     {
         let Some(serial) = self.pop() else {
@@ -250,7 +250,7 @@ impl Machine {
     }
 
     fn write(&mut self, code: &Code) -> Result<Stop, NoMemory>
-        requires { self.old.address < 2 ^ 63 }
+        requires { self.old.address < usize.MAX }
         ensures { IfOk result (λ stop. next_of stop self.new ≡ act code.now Instr.Write self.old) }
     {
         let Some(p) = self.pop() else {
@@ -263,7 +263,7 @@ impl Machine {
     }
 
     fn halt(&mut self, code: &Code) -> Stop
-        requires { self.old.address < 2 ^ 63 }
+        requires { self.old.address < usize.MAX }
         ensures { next_of result self.new ≡ act code.now Instr.Halt self.old }
     {
         self.address += 1;
@@ -295,7 +295,7 @@ fn instr_at(instrs: &[Instr], address: usize) -> Option<&Instr>
 impl Machine {
     // What an instruction does.
     fn act(&mut self, alloc: Global, code: &Code, instr: Instr) -> Result<Stop, NoMemory>
-        requires { self.old.address < 2 ^ 63 }
+        requires { self.old.address < usize.MAX }
         ensures { IfOk result (λ stop. next_of stop self.new ≡ act code.now instr self.old) }
     {
         match instr {

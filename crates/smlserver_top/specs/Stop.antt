@@ -1,4 +1,4 @@
--- What the machine over one region holds, and what its answers mean.
+-- What the answers of the machine over one region mean.
 use Rattle.kam_code.specs.State.{State}
 use Rattle.kam_code.specs.Step.{Halted, Uncaught, Next, Goes, Ends, Stuck}
 use Rattle.smlserver_top.specs.declared.machine.Stop.{Stop}
