@@ -16,6 +16,7 @@ fn copies_data_and_calls(rt: HostRuntime) -> Result<(), Fail> {
     holds_lists(&rt)?;
     are_data_copied(&rt)?;
     are_caches_copied(&rt)?;
+    are_operations_copied(&rt)?;
     are_commands_copied(&rt)?;
     are_calls_copied(&rt)?;
     are_requests_copied(&rt)?;
@@ -68,15 +69,21 @@ fn are_data_copied(rt: &(impl Abort + AllocGlobal)) -> Result<(), Fail> {
 fn are_caches_copied(rt: &(impl Abort + AllocGlobal)) -> Result<(), Fail> {
     let alloc = rt.alloc();
     assert_eq!(rt; KIND.try_copy(alloc)?, KIND);
+    let id = cache(alloc)?;
+    assert!(rt; id.try_copy(alloc)? == id, "a cache");
+    for answer in cache_answers(alloc)? {
+        assert!(rt; answer.try_copy(alloc)? == answer, "an answer");
+    }
+    Ok(())
+}
+
+fn are_operations_copied(rt: &(impl Abort + AllocGlobal)) -> Result<(), Fail> {
+    let alloc = rt.alloc();
     for op in operations(alloc)? {
         assert!(rt; op.try_copy(alloc)? == op, "an operation");
         let id = cache(alloc)?;
-        assert!(rt; id.try_copy(alloc)? == id, "a cache");
         let call = CacheCall { id, op };
         assert!(rt; call.try_copy(alloc)? == call, "a call");
-    }
-    for answer in cache_answers(alloc)? {
-        assert!(rt; answer.try_copy(alloc)? == answer, "an answer");
     }
     Ok(())
 }
