@@ -1,5 +1,5 @@
 // Input and output of the system, with a buffer each.
-ghost use Rattle.std.specs.Prelude.{◌≡◌, ◌≢◌, None, []};
+ghost use Rattle.std.specs.Prelude.{◌≡◌, ◌≢◌, None, [], IfOk};
 ghost use Rattle.std.specs.Io.Buffered.{writer_buffer};
 ghost use Rattle.outside_world.specs.Told.{Rose};
 
@@ -19,7 +19,9 @@ pub struct StreamSource<R: Read + Drop> {
 }
 
 impl<R: Read + Drop> StreamSource<R> {
-    pub fn make(alloc: Global, reader: R) -> Result<StreamSource<R>, NoMemory> {
+    pub fn make(alloc: Global, reader: R) -> Result<StreamSource<R>, NoMemory>
+        ensures { IfOk result (λ s. s.faults ≡ 0) }
+    {
         let Ok(reader) = BufReader::new(alloc, reader) else {
             return Err(NoMemory);
         };
@@ -61,7 +63,10 @@ pub struct StreamSink<W: Write + Drop> {
 }
 
 impl<W: Write + Drop> StreamSink<W> {
-    pub fn make(alloc: Global, writer: W) -> Result<StreamSink<W>, NoMemory> {
+    pub fn make(alloc: Global, writer: W) -> Result<StreamSink<W>, NoMemory>
+        ensures count { IfOk result (λ k. k.faults ≡ 0) }
+        ensures empty { IfOk result (λ k. writer_buffer k.writer ≡ []) }
+    {
         let Ok(writer) = BufWriter::new(alloc, writer) else {
             return Err(NoMemory);
         };

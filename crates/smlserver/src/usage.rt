@@ -1,5 +1,5 @@
 // What the program says of itself.
-ghost use Rattle.std.specs.Prelude.{◌≡◌};
+ghost use Rattle.std.specs.Prelude.{◌≡◌, ◌⊎◌};
 ghost use Rattle.outside_world.specs.Told.{Rose, grown};
 
 use crate::NO_MEMORY;
@@ -30,6 +30,7 @@ Exit statuses:
 
 /// Writes a text. The answer is the program's status.
 pub fn print_text<K: Sink>(output: &mut K, text: &str) -> u8
+    ensures statuses { (result ≡ 0) ⊎ ((result ≡ WRITE_FAULT) ⊎ (result ≡ NO_MEMORY)) }
     ensures ok { result ≡ 0 → K.written output.new ≡ grown (K.written output.old) text.now }
     ensures failed { result ≡ WRITE_FAULT → Rose (K.write_count output.old) (K.write_count output.new) }
 {
