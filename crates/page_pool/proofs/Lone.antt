@@ -1,8 +1,7 @@
 -- What a lone pool's calls leave, over plain lists.
-use Rattle.std.proofs.Common.{sym, max, Some, refl, ◌≡◌, ℕ, ◌+◌, ◌-◌, ◌^◌, ◌<◌, ◌≤◌, List, [], ◌∷◌, ◌++◌, length, ap, subst, ◌∙◌, arith}
+use Rattle.std.proofs.Common.{sym, max, Some, refl, ◌≡◌, ℕ, ◌+◌, ◌-◌, ◌<◌, List, [], ◌∷◌, ◌++◌, length, ap, subst, ◌∙◌, arith}
 use Rattle.std.proofs.lemmas.Bool.Decides.{nat_tests}
 use Rattle.std.proofs.lemmas.List.{map_push, length-append, length-map}
-use Rattle.std.specs.List.{range_with_len}
 use Rattle.page_pool.specs.Holding.{times, IsWith, TakesPage, FindsNone, GivesPage, lesser, raised}
 use Rattle.page_pool.specs.PageWords.{number_of, words_of}
 use Rattle.page_pool.specs.declared.page.Page.{Page}

@@ -1,5 +1,5 @@
 -- What a lone pool keeps true of its fields.
-use Rattle.std.specs.Prelude.{◌≡◌, ℕ, ◌≤◌, List, map, vec_capacity}
+use Rattle.std.specs.Prelude.{ℕ, ◌≤◌, List, map, vec_capacity}
 use Rattle.page_pool.specs.Lone.{AreOnce}
 use Rattle.page_pool.specs.PageWords.{number_of}
 use Rattle.page_pool.specs.declared.page.Page.{Page}

@@ -1,4 +1,4 @@
-use Rattle.std.proofs.Common.{◌≡◌, ◌≤◌, vec_capacity}
+use Rattle.std.proofs.Common.{◌≡◌, vec_capacity}
 use Rattle.std.specs.List.{range_with_len}
 use Rattle.page_pool.specs.Kept.{numbers}
 use Rattle.page_pool.proofs.lone_pool.LonePool.make.Given as goal

@@ -1,6 +1,6 @@
-use Rattle.std.proofs.Common.{◌≡◌, ◌<◌, [], ◌∷◌, ◌++◌, sym, ap, subst, ◌∙◌, arith, refl}
+use Rattle.std.proofs.Common.{◌<◌, sym, ap, subst, ◌∙◌, arith}
 use Rattle.page_pool.specs.Holding.{times, GivesPage}
-use Rattle.page_pool.specs.Lone.{LonePages, AreOnce, numbers_of, left_of, lone_holding}
+use Rattle.page_pool.specs.Lone.{LonePages, AreOnce, lone_holding}
 use Rattle.page_pool.specs.Kept.{numbers}
 use Rattle.page_pool.specs.PageWords.{number_of}
 use Rattle.page_pool.proofs.Lone.{AreOnce_push, few_free, numbers-push, each_once, length-numbers, given, with_free}

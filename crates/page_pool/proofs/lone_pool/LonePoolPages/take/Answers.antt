@@ -1,7 +1,7 @@
-use Rattle.std.proofs.Common.{◌≡◌, ℕ, ◌-◌, ◌<◌, max, List, [], ◌∷◌, ◌++◌, length, sym, ap, subst, ◌∙◌, arith, refl, Some}
+use Rattle.std.proofs.Common.{◌≡◌, ◌-◌, max, [], length, sym, ap, subst, ◌∙◌, arith, refl, Some}
 use Rattle.std.proofs.lemmas.List.{nil_from_length, append-nil}
-use Rattle.page_pool.specs.Holding.{TakesPage, FindsNone, lesser, raised}
-use Rattle.page_pool.specs.Lone.{LonePages, AreOnce, lone_holding}
+use Rattle.page_pool.specs.Holding.{TakesPage, FindsNone}
+use Rattle.page_pool.specs.Lone.{LonePages, lone_holding}
 use Rattle.page_pool.specs.Kept.{numbers}
 use Rattle.page_pool.specs.PageWords.{number_of}
 use Rattle.page_pool.proofs.Lone.{AreOnce_front, numbers-push, each_once, length-numbers, popped, taken, found_none, length-out, with_peak}
