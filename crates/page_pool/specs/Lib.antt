@@ -1,0 +1,4 @@
+pub mod PageWords
+pub mod Holding
+pub mod Lone
+pub mod Kept

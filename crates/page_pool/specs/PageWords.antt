@@ -1,0 +1,11 @@
+-- What contracts see of a page.
+use Rattle.std.specs.Prelude.{ℕ, List}
+use Rattle.page_pool.specs.declared.page.Page.{Page}
+
+-- its number in its pool
+abbrev pub number_of : Page → ℕ
+number_of p = p.number
+
+-- what its words say
+abbrev pub words_of : Page → List ℕ
+words_of p = p.words.items
