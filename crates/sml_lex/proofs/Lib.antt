@@ -1,0 +1,10 @@
+pub mod Unique
+pub mod Steps
+pub mod Runs
+pub mod CommentSteps
+pub mod LiteralSteps
+pub mod NumberSteps
+pub mod NameSteps
+pub mod ExpressionSteps
+pub mod MoveSteps
+pub mod Exact
