@@ -1,7 +1,6 @@
 -- Files that tell what they hold lead to one refusal at most.
-use Rattle.std.proofs.Common.{◌≡◌, ◌⊎◌, ℕ, ◌≤◌, List, length, Option, Some, None, refl, ap, sym, ◌∙◌, inl, inr, subst, arith}
+use Rattle.std.proofs.Common.{◌≡◌, ◌⊎◌, ℕ, List, length, Option, Some, None, refl, ap, sym, ◌∙◌, inl, inr, subst, arith}
 use Rattle.outside_world.specs.Told.{Rose, Contents, LacksFile}
-use Rattle.sml_syntax.specs.Tokens.{HasTokens}
 use Rattle.sml_lex.proofs.Unique.{one-refusal, not-both}
 use Rattle.smlserver_top.specs.declared.refusal.Mistake.{Mistake}
 use Rattle.smlserver_top.specs.declared.refusal.Reason.{Reason}
