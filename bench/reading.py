@@ -1,16 +1,15 @@
 #!/usr/bin/env python3
-"""Reads scripts of 1 MiB by the built program: seconds, MB a second and peak memory of a whole run of `page`.
+"""Reads scripts of 1 MiB by the built program: processor seconds, MB a second and peak memory of a whole run of `page`.
 
 usage: bench/reading.py [RUNS]    the best of so many runs, 5 if left out; ./smlserver or `rt run` in crates/smlserver builds the program
 
-Exits with 1 where a run takes 0.3 seconds or more, or more than 200 bytes of memory a byte of script, or ends with another status than 3.
+Exits with 1 where a run takes 0.3 processor seconds or more, or more than 200 bytes of memory a byte of script, or ends with another status than 3.
 """
 
 import os
 import subprocess
 import sys
 import tempfile
-import time
 
 TOP = os.path.join(os.path.dirname(os.path.abspath(__file__)), "..")
 SIZE = 1 << 20
@@ -49,13 +48,12 @@ def program():
 
 
 def run(binary, folder):
-    """Seconds, peak kilobytes, status and the line."""
-    start = time.perf_counter()
+    """Processor seconds, peak kilobytes, status and the line."""
     child = subprocess.Popen([binary, "page", "site", "/hello", ""], cwd=folder, stdout=subprocess.PIPE)
     line = child.stdout.read()
     _, status, usage = os.wait4(child.pid, 0)
     child.stdout.close()
-    return time.perf_counter() - start, usage.ru_maxrss, os.waitstatus_to_exitcode(status), line
+    return usage.ru_utime + usage.ru_stime, usage.ru_maxrss, os.waitstatus_to_exitcode(status), line
 
 
 def main():
