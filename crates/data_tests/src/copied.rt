@@ -1,0 +1,35 @@
+// Copies against what was copied, and makers of values that end the test where memory is wanting.
+use sml_syntax::{Boxed, Listed, NoMemory, Text};
+use std::alloc::Global;
+use std::process::Abort;
+
+/// Each copy equals the value at its own place, and no other.
+pub(crate) fn are_copied<T: PartialEq + Drop, C: Fn(&T, Global) -> Result<T, NoMemory>>(
+    rt: &(impl Abort + AllocGlobal),
+    values: &[T],
+    copy: C,
+)
+    requires { C.IsAlwaysCallable copy }
+{
+    for (i, value) in values.iter().enumerate() {
+        let copied = copy(value, rt.alloc()).expect(rt, "memory");
+        for (j, other) in values.iter().enumerate() {
+            assert!(rt; (copied == *other) == (i == j), "{i} and {j}");
+        }
+    }
+}
+
+pub(crate) fn text(rt: &(impl Abort + AllocGlobal), text: &str) -> Text {
+    Text::from_bytes(rt.alloc(), text.as_bytes()).expect(rt, "memory")
+}
+
+pub(crate) fn boxed<T: Drop>(rt: &(impl Abort + AllocGlobal), value: T) -> Boxed<T> {
+    Boxed::new(rt.alloc(), value).expect(rt, "memory")
+}
+
+pub(crate) fn list<T: Drop, const N: usize>(
+    rt: &(impl Abort + AllocGlobal),
+    items: [T; N],
+) -> Listed<T> {
+    Listed::of(Vec::from_array(rt.alloc(), items).expect(rt, "memory"))
+}
