@@ -77,7 +77,9 @@ impl ListBody {
         };
         let offset = row.words.len() as u64;
         for index in 0..count {
-            row.words.push(first.wrapping_add(index as u64)).expect(rt, "memory");
+            row.words
+                .push(first.wrapping_add(index as u64))
+                .expect(rt, "memory");
         }
         Answer::Word(serial.wrapping_mul(4294967296).wrapping_add(offset))
     }

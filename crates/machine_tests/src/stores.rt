@@ -61,10 +61,26 @@ fn answer_as_lists(rt: &(impl Abort + AllocGlobal), seed: u64) {
     for turn in 0..1000u32 {
         let call = generator.next();
         let wanted = list.call(rt, call);
-        assert_eq!(rt; plain.call(call, &mut words), wanted, "plain, {seed}, {turn}");
-        assert_eq!(rt; paged.call(call, &mut words), wanted, "paged, {seed}, {turn}");
-        assert_eq!(rt; plain.store().height(), list.height(), "plain, {seed}, {turn}");
-        assert_eq!(rt; paged.store().height(), list.height(), "paged, {seed}, {turn}");
+        assert_eq!(rt;
+            plain.call(call, &mut words),
+            wanted,
+            "plain, {seed}, {turn}"
+        );
+        assert_eq!(rt;
+            paged.call(call, &mut words),
+            wanted,
+            "paged, {seed}, {turn}"
+        );
+        assert_eq!(rt;
+            plain.store().height(),
+            list.height(),
+            "plain, {seed}, {turn}"
+        );
+        assert_eq!(rt;
+            paged.store().height(),
+            list.height(),
+            "paged, {seed}, {turn}"
+        );
         assert_eq!(rt; paged.store().held(), list.pages(), "held, {seed}, {turn}");
         if wanted == Answer::Dead {
             dead = dead.wrapping_add(1);
@@ -81,14 +97,20 @@ fn runs_dry_in_a_write(rt: &(impl Abort + AllocGlobal)) {
     let words = [7u64; 300];
     let mut store = paged(rt, 3);
     assert_eq!(rt; store.region_new(), Answer::Word(1));
-    assert_eq!(rt; store.alloc_words(1, &words[..100]), Answer::Word(4294967296));
+    assert_eq!(rt;
+        store.alloc_words(1, &words[..100]),
+        Answer::Word(4294967296)
+    );
     // 400 words need four pages: two more come, and go back as the third doesn't.
     assert_eq!(rt; store.alloc_words(1, &words), Answer::NoPage);
     assert_eq!(rt; store.store().held(), 1);
     assert_eq!(rt; store.store().dries(), 1);
     assert_eq!(rt; store.get(4294967296, 99), Answer::Word(7));
     assert_eq!(rt; store.get(4294967296, 100), Answer::Dead);
-    assert_eq!(rt; store.alloc_words(1, &words[..284]), Answer::Word(4294967396));
+    assert_eq!(rt;
+        store.alloc_words(1, &words[..284]),
+        Answer::Word(4294967396)
+    );
     assert_eq!(rt; store.store().held(), 3);
     assert_eq!(rt; store.alloc_words(1, &words[..1]), Answer::NoPage);
     assert_eq!(rt; store.alloc_words(2, &words[..1]), Answer::Dead);
@@ -112,7 +134,10 @@ fn ends_in_order<S: RegionStore>(rt: &impl Abort, store: &mut Watched<S>) {
     assert_eq!(rt; store.region_new(), Answer::Word(1));
     assert_eq!(rt; store.region_new(), Answer::Word(2));
     assert_eq!(rt; store.alloc_words(1, &[11, 12]), Answer::Word(4294967296));
-    assert_eq!(rt; store.alloc_words(2, &[21, 22, 23]), Answer::Word(8589934592));
+    assert_eq!(rt;
+        store.alloc_words(2, &[21, 22, 23]),
+        Answer::Word(8589934592)
+    );
     assert_eq!(rt; store.set(8589934592, 2, 29), Answer::Done);
     assert_eq!(rt; store.get(8589934593, 1), Answer::Word(29));
     assert_eq!(rt; store.close_top(), Answer::Done);
