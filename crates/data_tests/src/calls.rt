@@ -1,8 +1,10 @@
 // An operation, a command, a call and an answer of each form.
-use crate::copied::{are_copied, list, text};
+use crate::copied::{Copied, are_copied, list, text};
 use sml_syntax::{
-    CacheAns, CacheCall, CacheId, CacheOp, Datum, DbAns, DbCmd, Desc, Kind, WebAns, WebCall,
+    CacheAns, CacheCall, CacheId, CacheOp, Datum, DbAns, DbCmd, Desc, Kind, NoMemory, WebAns,
+    WebCall,
 };
+use std::alloc::Global;
 use std::process::Abort;
 
 const KIND: Kind = Kind {
@@ -21,20 +23,20 @@ pub(crate) fn cache(rt: &(impl Abort + AllocGlobal)) -> CacheId {
 }
 
 pub(crate) fn are_cache_calls_copied(rt: &(impl Abort + AllocGlobal)) {
-    are_copied(rt, &[KIND], |kind, alloc| kind.try_copy(alloc));
-    are_copied(rt, &[cache(rt)], |cache, alloc| cache.try_copy(alloc));
+    are_copied(rt, &[KIND]);
+    are_copied(rt, &[cache(rt)]);
     let ops = [
         CacheOp::Look(Datum::Int(1)),
         CacheOp::Put(Datum::Int(1), Datum::Int(2)),
         CacheOp::Put(Datum::Int(2), Datum::Int(1)),
         CacheOp::Flush,
     ];
-    are_copied(rt, &ops, |op, alloc| op.try_copy(alloc));
+    are_copied(rt, &ops);
     let call = CacheCall {
         id: cache(rt),
         op: CacheOp::Flush,
     };
-    are_copied(rt, &[call], |call, alloc| call.try_copy(alloc));
+    are_copied(rt, &[call]);
 }
 
 pub(crate) fn are_commands_copied(rt: &(impl Abort + AllocGlobal)) {
@@ -45,7 +47,7 @@ pub(crate) fn are_commands_copied(rt: &(impl Abort + AllocGlobal)) {
         DbCmd::One(text(rt, "t"), text(rt, "k")),
         DbCmd::All(text(rt, "t")),
     ];
-    are_copied(rt, &commands, |command, alloc| command.try_copy(alloc));
+    are_copied(rt, &commands);
 }
 
 pub(crate) fn are_calls_copied(rt: &(impl Abort + AllocGlobal)) {
@@ -57,7 +59,7 @@ pub(crate) fn are_calls_copied(rt: &(impl Abort + AllocGlobal)) {
         WebCall::Cache(call),
         WebCall::Db(text(rt, "site"), DbCmd::All(text(rt, "t"))),
     ];
-    are_copied(rt, &calls, |call, alloc| call.try_copy(alloc));
+    are_copied(rt, &calls);
 }
 
 pub(crate) fn are_answers_copied(rt: &(impl Abort + AllocGlobal)) {
@@ -69,7 +71,7 @@ pub(crate) fn are_answers_copied(rt: &(impl Abort + AllocGlobal)) {
         CacheAns::Flushed,
         CacheAns::Full,
     ];
-    are_copied(rt, &found, |answer, alloc| answer.try_copy(alloc));
+    are_copied(rt, &found);
     let row = list(rt, [text(rt, "k"), text(rt, "v")]);
     let results = [
         DbAns::Done,
@@ -79,7 +81,61 @@ pub(crate) fn are_answers_copied(rt: &(impl Abort + AllocGlobal)) {
         DbAns::KeyStands,
         DbAns::Fault(3),
     ];
-    are_copied(rt, &results, |answer, alloc| answer.try_copy(alloc));
+    are_copied(rt, &results);
     let answers = [WebAns::Cache(CacheAns::Absent), WebAns::Db(DbAns::Done)];
-    are_copied(rt, &answers, |answer, alloc| answer.try_copy(alloc));
+    are_copied(rt, &answers);
+}
+
+impl Copied for Kind {
+    fn copied(&self, alloc: Global) -> Result<Kind, NoMemory> {
+        self.try_copy(alloc)
+    }
+}
+
+impl Copied for CacheId {
+    fn copied(&self, alloc: Global) -> Result<CacheId, NoMemory> {
+        self.try_copy(alloc)
+    }
+}
+
+impl Copied for CacheOp {
+    fn copied(&self, alloc: Global) -> Result<CacheOp, NoMemory> {
+        self.try_copy(alloc)
+    }
+}
+
+impl Copied for CacheCall {
+    fn copied(&self, alloc: Global) -> Result<CacheCall, NoMemory> {
+        self.try_copy(alloc)
+    }
+}
+
+impl Copied for CacheAns {
+    fn copied(&self, alloc: Global) -> Result<CacheAns, NoMemory> {
+        self.try_copy(alloc)
+    }
+}
+
+impl Copied for DbCmd {
+    fn copied(&self, alloc: Global) -> Result<DbCmd, NoMemory> {
+        self.try_copy(alloc)
+    }
+}
+
+impl Copied for DbAns {
+    fn copied(&self, alloc: Global) -> Result<DbAns, NoMemory> {
+        self.try_copy(alloc)
+    }
+}
+
+impl Copied for WebCall {
+    fn copied(&self, alloc: Global) -> Result<WebCall, NoMemory> {
+        self.try_copy(alloc)
+    }
+}
+
+impl Copied for WebAns {
+    fn copied(&self, alloc: Global) -> Result<WebAns, NoMemory> {
+        self.try_copy(alloc)
+    }
 }

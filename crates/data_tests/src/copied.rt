@@ -3,16 +3,15 @@ use sml_syntax::{Boxed, Listed, NoMemory, Text};
 use std::alloc::Global;
 use std::process::Abort;
 
+/// What `try_copy` copies.
+pub(crate) trait Copied: Sized + PartialEq + Drop {
+    fn copied(&self, alloc: Global) -> Result<Self, NoMemory>;
+}
+
 /// Each copy equals the value at its own place, and no other.
-pub(crate) fn are_copied<T: PartialEq + Drop, C: Fn(&T, Global) -> Result<T, NoMemory>>(
-    rt: &(impl Abort + AllocGlobal),
-    values: &[T],
-    copy: C,
-)
-    requires { C.IsAlwaysCallable copy }
-{
+pub(crate) fn are_copied<T: Copied>(rt: &(impl Abort + AllocGlobal), values: &[T]) {
     for (i, value) in values.iter().enumerate() {
-        let copied = copy(value, rt.alloc()).expect(rt, "memory");
+        let copied = value.copied(rt.alloc()).expect(rt, "memory");
         for (j, other) in values.iter().enumerate() {
             assert!(rt; (copied == *other) == (i == j), "{i} and {j}");
         }

@@ -1,6 +1,7 @@
 // A request, and a reply of each form.
-use crate::copied::{are_copied, list, text};
-use sml_syntax::{FormVars, Refusal, Reply, Request};
+use crate::copied::{Copied, are_copied, list, text};
+use sml_syntax::{FormVars, NoMemory, Refusal, Reply, Request};
+use std::alloc::Global;
 use std::process::Abort;
 
 fn form(rt: &(impl Abort + AllocGlobal)) -> FormVars {
@@ -10,13 +11,13 @@ fn form(rt: &(impl Abort + AllocGlobal)) -> FormVars {
 }
 
 pub(crate) fn are_requests_copied(rt: &(impl Abort + AllocGlobal)) {
-    are_copied(rt, &[form(rt)], |form, alloc| form.try_copy(alloc));
+    are_copied(rt, &[form(rt)]);
     let request = Request {
         path: text(rt, "/hello"),
         form: form(rt),
         closing: true,
     };
-    are_copied(rt, &[request], |request, alloc| request.try_copy(alloc));
+    are_copied(rt, &[request]);
 }
 
 const REFUSALS: [Refusal; 8] = [
@@ -31,12 +32,36 @@ const REFUSALS: [Refusal; 8] = [
 ];
 
 pub(crate) fn are_replies_copied(rt: &(impl Abort + AllocGlobal)) {
-    are_copied(rt, &REFUSALS, |refusal, alloc| refusal.try_copy(alloc));
+    are_copied(rt, &REFUSALS);
     let finished = Reply::Finished {
         status: 200,
         ctype: text(rt, "text/html"),
         body: text(rt, "<p>42</p>"),
     };
     let replies = [finished, Reply::Refused(Refusal::Pages)];
-    are_copied(rt, &replies, |reply, alloc| reply.try_copy(alloc));
+    are_copied(rt, &replies);
+}
+
+impl Copied for FormVars {
+    fn copied(&self, alloc: Global) -> Result<FormVars, NoMemory> {
+        self.try_copy(alloc)
+    }
+}
+
+impl Copied for Request {
+    fn copied(&self, alloc: Global) -> Result<Request, NoMemory> {
+        self.try_copy(alloc)
+    }
+}
+
+impl Copied for Refusal {
+    fn copied(&self, alloc: Global) -> Result<Refusal, NoMemory> {
+        self.try_copy(alloc)
+    }
+}
+
+impl Copied for Reply {
+    fn copied(&self, alloc: Global) -> Result<Reply, NoMemory> {
+        self.try_copy(alloc)
+    }
 }

@@ -1,9 +1,10 @@
 // A value of each form.
 use crate::calls::cache;
-use crate::copied::{are_copied, boxed, list, text};
+use crate::copied::{Copied, are_copied, boxed, list, text};
 use sml_syntax::{
-    Bound, Boxed, Closure, Desc, Exp, ExpForm, Listed, Pat, PatForm, Rule, Span, Value,
+    Bound, Boxed, Closure, Desc, Exp, ExpForm, Listed, NoMemory, Pat, PatForm, Rule, Span, Value,
 };
+use std::alloc::Global;
 use std::process::Abort;
 
 const SPAN: Span = Span { from: 3, to: 8 };
@@ -32,14 +33,14 @@ fn closure(rt: &(impl Abort + AllocGlobal)) -> Closure {
 }
 
 pub(crate) fn are_closures_copied(rt: &(impl Abort + AllocGlobal)) {
-    are_copied(rt, &[closure(rt)], |closure, alloc| closure.try_copy(alloc));
+    are_copied(rt, &[closure(rt)]);
     let bounds = [
         Bound::Variable(Value::Int(1)),
         Bound::Constructor(true),
         Bound::Constructor(false),
         Bound::Exception(1, true),
     ];
-    are_copied(rt, &bounds, |bound, alloc| bound.try_copy(alloc));
+    are_copied(rt, &bounds);
 }
 
 fn one(rt: &(impl Abort + AllocGlobal)) -> Option<Boxed<Value>> {
@@ -63,5 +64,23 @@ pub(crate) fn are_values_copied(rt: &(impl Abort + AllocGlobal)) {
         Value::Desc(Desc::Str),
         Value::Cache(cache(rt)),
     ];
-    are_copied(rt, &values, |value, alloc| value.try_copy(alloc));
+    are_copied(rt, &values);
+}
+
+impl Copied for Bound {
+    fn copied(&self, alloc: Global) -> Result<Bound, NoMemory> {
+        self.try_copy(alloc)
+    }
+}
+
+impl Copied for Closure {
+    fn copied(&self, alloc: Global) -> Result<Closure, NoMemory> {
+        self.try_copy(alloc)
+    }
+}
+
+impl Copied for Value {
+    fn copied(&self, alloc: Global) -> Result<Value, NoMemory> {
+        self.try_copy(alloc)
+    }
 }
