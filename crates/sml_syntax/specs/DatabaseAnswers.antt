@@ -1,7 +1,8 @@
 -- Which answers fit a database command. A fault fits none: it ends the request.
-use Rattle.std.specs.Prelude.{◌≡◌, ◌⊎◌, ℕ, List, [], ◌∷◌, map, nat_cmp}
-use Rattle.core.specs.Cmp.Lexicographic.{slice_cmp}
-use Rattle.core.specs.List.Sorted.{IsStrictlySortedBy}
+use Rattle.std.specs.Prelude.{◌≡◌, ◌⊎◌, ℕ, List, [], ◌∷◌, map}
+use Rattle.std.specs.Ordering.{nat_cmp}
+use Rattle.std.specs.Cmp.Lexicographic.{slice_cmp}
+use Rattle.std.specs.List.Sorted.{IsStrictlySortedBy}
 use Rattle.sml_syntax.specs.declared.database.DbCmd.{DbCmd}
 use Rattle.sml_syntax.specs.declared.database.DbCmd.TheVariants as cmd
 use Rattle.sml_syntax.specs.declared.database.DbAns.{DbAns}
