@@ -1,5 +1,5 @@
 // What keeps tables.
-ghost use Rattle.std.specs.Prelude.{◌≡◌, ◌≤◌, ◌↔◌, IfOk, OnErr, IsErrOf, ¬◌};
+ghost use Rattle.std.specs.Prelude.{◌≡◌, ◌≤◌, ◌↔◌, IfOk, OnErr, IsErrOf};
 ghost use Rattle.sml_syntax.specs.DatabaseAnswers.{FitsCommand};
 ghost use Rattle.outside_world.specs.Told.{Rose};
 ghost use Rattle.outside_world.specs.FaultPlan.{FailsAsPlanned, plan_after};

@@ -1,7 +1,7 @@
 // One table in an ordered map, from keys to values.
-ghost use Rattle.std.specs.Prelude.{◌≡◌, IfOk, OnOk, OnErr, map};
+ghost use Rattle.std.specs.Prelude.{◌≡◌, IfOk, OnOk, OnErr, [], ◌∷◌, map};
 ghost use Rattle.sml_syntax.specs.DatabaseAnswers.{row_of_entry, KeysAscend};
-ghost use Rattle.db_keeper.specs.DatabaseMachine.{rows_of_value, under};
+ghost use Rattle.db_keeper.specs.DatabaseMachine.{rows_of_value, under, without};
 ghost use Rattle.db_keeper.specs.Shown.{table_of, insert_answer, with_row};
 
 use sml_syntax::{DbAns, Listed, NoMemory, Text};
@@ -30,6 +30,13 @@ pub(crate) fn insert_row(
     Ok(DbAns::Done)
 }
 
+/// Takes a key's row out of a table, if there is one.
+pub(crate) fn remove_row(table: &mut Table, key: &Text)
+    ensures { table_of table.new ≡ without key.now (table_of table.old) }
+{
+    table.remove(key.as_bytes());
+}
+
 /// The row of a key's value, if there is one.
 pub(crate) fn value_row(
     alloc: Global,
@@ -38,19 +45,27 @@ pub(crate) fn value_row(
 ) -> Result<Listed<Listed<Text>>, NoMemory>
     ensures { IfOk result (λ rows. rows ≡ rows_of_value (under key.now (table_of table.now))) }
 {
-    let mut rows = Vec::new(alloc);
-    if let Some(value) = table.get(key.as_bytes()) {
-        let mut row = Vec::with_capacity(alloc, 1)?;
-        row.push(value.try_copy(alloc)?)?;
-        rows.push(Listed::of(row))?;
+    match table.get(key.as_bytes()) {
+        Some(value) => one_row(alloc, value),
+        None => Ok(Listed::of(Vec::new(alloc))),
     }
+}
+
+/// A value as the only row.
+fn one_row(alloc: Global, value: &Text) -> Result<Listed<Listed<Text>>, NoMemory>
+    ensures { IfOk result (λ rows. rows ≡ (value.now ∷ []) ∷ []) }
+{
+    let mut row = Vec::with_capacity(alloc, 1)?;
+    row.push(value.try_copy(alloc)?)?;
+    let mut rows = Vec::with_capacity(alloc, 1)?;
+    rows.push(Listed::of(row))?;
     Ok(Listed::of(rows))
 }
 
 /// Each key with its value, in order.
 pub(crate) fn all_rows(alloc: Global, table: &Table) -> Result<Listed<Listed<Text>>, NoMemory>
     ensures rows { IfOk result (λ rows. rows ≡ map row_of_entry (table_of table.now)) }
-    ensures ascend { KeysAscend (table_of table.now) }
+    ensures ascend { OnOk result (KeysAscend (table_of table.now)) }
 {
     let mut rows = Vec::with_capacity(alloc, table.len())?;
     for (key, value) in table.iter() {

@@ -4,7 +4,7 @@ ghost use Rattle.sml_syntax.specs.DatabaseAnswers.{FitsCommand};
 ghost use Rattle.sml_syntax.specs.declared.database.DbCmd.TheVariants as cmd;
 ghost use Rattle.db_keeper.specs.DatabaseMachine.{TableStep};
 
-use crate::table::{Table, all_rows, insert_row, value_row};
+use crate::table::{Table, all_rows, insert_row, remove_row, value_row};
 use sml_syntax::{DbAns, DbCmd, NoMemory, Text};
 use std::alloc::Global;
 use std::collections::BTreeMap;
@@ -69,23 +69,21 @@ impl Tables {
         ensures ok { IfOk result (λ answer. TableStep self.old (cmd.Insert name.now key.now value.now) answer self.new) }
         ensures err { OnErr result (self.new ≡ self.old) }
     {
-        match self.tables.get_mut(name.as_bytes()) {
-            Some(table) => insert_row(self.alloc, table, key, value),
-            None => Ok(DbAns::NoTable),
-        }
+        let Some(table) = self.tables.get_mut(name.as_bytes()) else {
+            return Ok(DbAns::NoTable);
+        };
+        insert_row(self.alloc, table, key, value)
     }
 
     fn delete(&mut self, name: &Text, key: &Text) -> DbAns
         ensures fits { FitsCommand (cmd.Delete name.now key.now) result }
         ensures step { TableStep self.old (cmd.Delete name.now key.now) result self.new }
     {
-        match self.tables.get_mut(name.as_bytes()) {
-            Some(table) => {
-                table.remove(key.as_bytes());
-                DbAns::Done
-            }
-            None => DbAns::NoTable,
-        }
+        let Some(table) = self.tables.get_mut(name.as_bytes()) else {
+            return DbAns::NoTable;
+        };
+        remove_row(table, key);
+        DbAns::Done
     }
 
     fn one(&self, name: &Text, key: &Text) -> Result<DbAns, NoMemory>

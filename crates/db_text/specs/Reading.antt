@@ -79,6 +79,13 @@ ReadsPart texts p bytes at (ends.At to) texts' =
     (to ≤ length bytes) × ((ps : List Left) → run texts (p ∷ ps) (drop at bytes) at ≡ run texts' ps (drop to bytes) to)
 ReadsPart texts p bytes at (ends.Stops place) texts' = (ps : List Left) → run texts (p ∷ ps) (drop at bytes) at ≡ Stops place
 
--- a quote stands at a place
-abbrev pub is_quote_at : List ℕ → ℕ → Bool
-is_quote_at bytes at = nat_lt at (length bytes) && slice_index bytes at == 39
+abbrev pub is_quote : ℕ → Bool
+is_quote b = b == 39
+
+-- the byte is this one, if it is made small
+abbrev pub is_small : ℕ → ℕ → Bool
+is_small c b = small b == c
+
+-- a byte that passes a test stands at a place
+abbrev pub stands_at : (ℕ → Bool) → List ℕ → ℕ → Bool
+stands_at test bytes at = nat_lt at (length bytes) && test (slice_index bytes at)

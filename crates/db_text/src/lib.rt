@@ -3,7 +3,7 @@
 //! `read_cmd` tries the forms one after the other. Each is a list of parts, and the bytes are read part by part; where
 //! no form takes all bytes, the place is the farthest at which one of them stopped.
 #![tactic(auto)]
-ghost use Rattle.std.specs.Prelude.{◌≡◌, ℕ, IfOk, Err};
+ghost use Rattle.std.specs.Prelude.{◌≡◌, ◌⊎◌, ◌≤◌, ℕ, IfOk, Err};
 ghost use Rattle.sml_syntax.specs.declared.database.DbCmd.{DbCmd as Command};
 ghost use Rattle.sml_syntax.specs.Statements.{Statement, NoStatement};
 ghost use Rattle.db_text.specs.Answers.{GivesCommand, GivesPlace};
@@ -29,8 +29,20 @@ pub fn read_cmd(alloc: Global, bytes: &[u8]) -> Result<DbCmd, DbRefusal>
     for form in FORMS {
         match read_form(alloc, bytes, form)? {
             Reading::Whole(texts) => return Ok(command(form, texts)),
-            Reading::Stops(at) => place = place.max(at),
+            Reading::Stops(at) => place = farther(place, at),
         }
     }
     Err(DbRefusal::BadStatement(place as u64))
+}
+
+/// The greater of two places.
+fn farther(a: usize, b: usize) -> usize
+    ensures first { a ≤ result }
+    ensures second { b ≤ result }
+    ensures one { (result ≡ a) ⊎ (result ≡ b) }
+{
+    if a < b {
+        return b;
+    }
+    a
 }

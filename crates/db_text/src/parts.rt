@@ -1,5 +1,5 @@
 // The parts of statements, and what their bytes are.
-ghost use Rattle.std.specs.Prelude.{◌≡◌, ℕ, ◌<◌, ◌≤◌, List, [], ◌∷◌, ◌++◌, length, drop, slice_index, slice_range, true, IfOk};
+ghost use Rattle.std.specs.Prelude.{◌≡◌, ℕ, ◌≤◌, List, ◌∷◌, length, drop, IfOk};
 ghost use Rattle.sml_syntax.specs.Spelling as spell;
 ghost use Rattle.sml_syntax.specs.Statements as statements;
 ghost use Rattle.db_text.specs.Reading as reading;
@@ -77,6 +77,37 @@ fn is_table_byte(b: u8) -> bool
     is_letter(b) || (b >= b'0' && b <= b'9') || b == b'_'
 }
 
+fn is_space_at(bytes: &[u8], at: usize) -> bool
+    ensures { result ≡ reading.stands_at statements.is_space bytes.now at }
+{
+    at < bytes.len() && is_space(bytes[at])
+}
+
+fn is_letter_at(bytes: &[u8], at: usize) -> bool
+    ensures { result ≡ reading.stands_at spell.is_letter bytes.now at }
+{
+    at < bytes.len() && is_letter(bytes[at])
+}
+
+fn is_table_byte_at(bytes: &[u8], at: usize) -> bool
+    ensures { result ≡ reading.stands_at statements.is_table_byte bytes.now at }
+{
+    at < bytes.len() && is_table_byte(bytes[at])
+}
+
+fn is_quote_at(bytes: &[u8], at: usize) -> bool
+    ensures { result ≡ reading.stands_at reading.is_quote bytes.now at }
+{
+    at < bytes.len() && bytes[at] == b'\''
+}
+
+/// A byte, in any case.
+fn is_small_at(bytes: &[u8], at: usize, c: u8) -> bool
+    ensures { result ≡ reading.stands_at (reading.is_small c) bytes.now at }
+{
+    at < bytes.len() && small(bytes[at]) == c
+}
+
 /// Behind the spaces at a place.
 fn spaces_end(bytes: &[u8], from: usize) -> usize
     requires { from ≤ length bytes.now }
@@ -84,10 +115,7 @@ fn spaces_end(bytes: &[u8], from: usize) -> usize
     ensures spaces { (texts : List (List ℕ)) (ps : List Left) → run texts (Spaces ∷ ps) (drop from bytes.now) from ≡ run texts ps (drop result bytes.now) result }
 {
     let mut at = from;
-    while at < bytes.len() {
-        if !is_space(bytes[at]) {
-            return at;
-        }
+    while is_space_at(bytes, at) {
         at += 1;
     }
     at
@@ -97,10 +125,7 @@ fn gap_end(bytes: &[u8], from: usize) -> End
     requires { from ≤ length bytes.now }
     ensures { (texts : List (List ℕ)) → ReadsPart texts Gap bytes.now from result texts }
 {
-    if from == bytes.len() {
-        return End::Stops(from);
-    }
-    if !is_space(bytes[from]) {
+    if !is_space_at(bytes, from) {
         return End::Stops(from);
     }
     End::At(spaces_end(bytes, from + 1))
@@ -113,10 +138,7 @@ fn word_end(bytes: &[u8], from: usize, word: &[u8]) -> End
 {
     let mut at = from;
     for c in word {
-        if at == bytes.len() {
-            return End::Stops(at);
-        }
-        if small(bytes[at]) != *c {
+        if !is_small_at(bytes, at, *c) {
             return End::Stops(at);
         }
         at += 1;
@@ -133,33 +155,18 @@ fn read_name(
     requires { from ≤ length bytes.now }
     ensures { IfOk result (λ end. ReadsPart texts.old.items Name bytes.now from end texts.new.items) }
 {
-    if from == bytes.len() {
+    if !is_letter_at(bytes, from) {
         return Ok(End::Stops(from));
     }
-    if !is_letter(bytes[from]) {
-        return Ok(End::Stops(from));
-    }
-    let to = name_end(bytes, from);
-    texts.push(Text::from_bytes(alloc, &bytes[from..to])?)?;
-    Ok(End::At(to))
-}
-
-/// Behind the name whose first letter stands at a place.
-fn name_end(bytes: &[u8], from: usize) -> usize
-    requires within { from < length bytes.now }
-    requires letter { spell.is_letter (slice_index bytes.now from) ≡ true }
-    ensures onward { from ≤ result }
-    ensures within { result ≤ length bytes.now }
-    ensures name { (texts : List (List ℕ)) (ps : List Left) → run texts (Name ∷ ps) (drop from bytes.now) from ≡ run (texts ++ slice_range bytes.now from result ∷ []) ps (drop result bytes.now) result }
-{
+    let mut name = Vec::with_capacity(alloc, 32)?;
+    name.push(bytes[from])?;
     let mut at = from + 1;
-    while at < bytes.len() && at - from < 32 {
-        if !is_table_byte(bytes[at]) {
-            return at;
-        }
+    while name.len() < 32 && is_table_byte_at(bytes, at) {
+        name.push(bytes[at])?;
         at += 1;
     }
-    at
+    texts.push(Text::from_vec(name))?;
+    Ok(End::At(at))
 }
 
 fn read_quoted(
@@ -171,31 +178,23 @@ fn read_quoted(
     requires { from ≤ length bytes.now }
     ensures { IfOk result (λ end. ReadsPart texts.old.items Quoted bytes.now from end texts.new.items) }
 {
-    if from == bytes.len() {
-        return Ok(End::Stops(from));
-    }
-    if bytes[from] != b'\'' {
+    if !is_quote_at(bytes, from) {
         return Ok(End::Stops(from));
     }
     let mut text = Vec::new(alloc);
     let mut at = from + 1;
     while at < bytes.len() {
-        let b = bytes[at];
-        at += 1;
-        if b == b'\'' {
-            if !is_quote_at(bytes, at) {
+        if is_quote_at(bytes, at) {
+            if !is_quote_at(bytes, at + 1) {
                 texts.push(Text::from_vec(text))?;
-                return Ok(End::At(at));
+                return Ok(End::At(at + 1));
             }
+            text.push(b'\'')?;
+            at += 2;
+        } else {
+            text.push(bytes[at])?;
             at += 1;
         }
-        text.push(b)?;
     }
     Ok(End::Stops(at))
-}
-
-fn is_quote_at(bytes: &[u8], at: usize) -> bool
-    ensures { result ≡ reading.is_quote_at bytes.now at }
-{
-    at < bytes.len() && bytes[at] == b'\''
 }
