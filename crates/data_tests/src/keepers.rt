@@ -57,7 +57,10 @@ const CALLS: [(&str, &str); 68] = [
     ("select k,v from T order by k", "rows"),
     ("delete from u where k = ''", "NoTable"),
     ("delete from T where k = ''", "Done"),
-    ("select k,v from t order by k", "rows;|v11;'|v7;B|v12;a|v6;b|v25;its|v21"),
+    (
+        "select k,v from t order by k",
+        "rows;|v11;'|v7;B|v12;a|v6;b|v25;its|v21",
+    ),
     ("delete from t where k = 'b'", "Done"),
     ("insert into t values ('B','v42')", "KeyStands"),
     ("insert into t values ('ab','v43')", "Done"),
@@ -72,7 +75,10 @@ const CALLS: [(&str, &str); 68] = [
     ("select v from t where k = 'b'", "rows"),
     ("insert into t values ('a','v53')", "KeyStands"),
     ("select k,v from u order by k", "NoTable"),
-    ("select k,v from t order by k", "rows;|v11;'|v7;B|v12;a|v6;ab|v43;its|v21"),
+    (
+        "select k,v from t order by k",
+        "rows;|v11;'|v7;B|v12;a|v6;ab|v43;its|v21",
+    ),
     ("insert into t values ('B','v56')", "KeyStands"),
     ("select k,v from u order by k", "NoTable"),
     ("select v from t where k = 'ab'", "rows;v43"),
@@ -141,10 +147,19 @@ fn keepers_fail_where_they_were_told(rt: HostRuntime) -> Result<(), Fail> {
         assert_eq!(rt; handle.spares(), 1);
         assert_eq!(rt; handle.replace(), true);
         assert_eq!(rt; handle.spares(), 0);
-        assert_eq!(rt; call(rt.alloc(), &mut handle, "create table t")?, DbAns::Fault(1));
-        assert_eq!(rt; call(rt.alloc(), &mut handle, "create table t")?, DbAns::Done);
+        assert_eq!(rt;
+            call(rt.alloc(), &mut handle, "create table t")?,
+            DbAns::Fault(1)
+        );
+        assert_eq!(rt;
+            call(rt.alloc(), &mut handle, "create table t")?,
+            DbAns::Done
+        );
         assert_eq!(rt; handle.replace(), false);
-        assert_eq!(rt; call(rt.alloc(), &mut handle, "create table t")?, DbAns::TableStands);
+        assert_eq!(rt;
+            call(rt.alloc(), &mut handle, "create table t")?,
+            DbAns::TableStands
+        );
     }
     Ok(())
 }

@@ -27,8 +27,14 @@ const STATEMENTS: [(&str, &str); 64] = [
     (" ", "at|1"),
     ("c", "at|1"),
     ("x", "at|0"),
-    ("create table Taaaaaaaaaaaaaaaaaaaaaaaaaaaaaa", "create|Taaaaaaaaaaaaaaaaaaaaaaaaaaaaaa"),
-    ("create table Taaaaaaaaaaaaaaaaaaaaaaaaaaaaaaa", "create|Taaaaaaaaaaaaaaaaaaaaaaaaaaaaaaa"),
+    (
+        "create table Taaaaaaaaaaaaaaaaaaaaaaaaaaaaaa",
+        "create|Taaaaaaaaaaaaaaaaaaaaaaaaaaaaaa",
+    ),
+    (
+        "create table Taaaaaaaaaaaaaaaaaaaaaaaaaaaaaaa",
+        "create|Taaaaaaaaaaaaaaaaaaaaaaaaaaaaaaa",
+    ),
     ("create table Taaaaaaaaaaaaaaaaaaaaaaaaaaaaaaaa", "at|45"),
     ("insert into t values ('a','b')", "insert|t|a|b"),
     ("INSERT INTO t VALUES('a','b')", "insert|t|a|b"),

@@ -23,13 +23,11 @@ impl Model for MapKeeper {
 
     ghost Value = { KeeperMeaning };
 
-    ghost view = {
-        λ k. record {
-            tables = Some k.tables;
-            plan = Some (record { fails = k.fails.items; calls = k.calls; faults = k.faults });
-            faults = k.faults;
-        }
-    };
+    ghost view = { λ k. record {
+      tables = Some k.tables;
+      plan = Some (record { fails = k.fails.items; calls = k.calls; faults = k.faults });
+      faults = k.faults;
+    } };
 }
 
 impl MapKeeper {

@@ -36,7 +36,6 @@ form_of (cmd.Delete t k) = form.Delete
 form_of (cmd.One t k) = form.One
 form_of (cmd.All t) = form.All
 
-
 pub takes : (bs : List ℕ) (c : DbCmd) → Statement bs c → run [] (form_left (form_of c)) bs 0 ≡ Whole (texts_of (parts_of c))
 takes bs (cmd.Create t) d = takes-parts (parts_of (cmd.Create t)) bs d (parted (cmd.Create t)) [] 0
 takes bs (cmd.Insert t k v) d = takes-parts (parts_of (cmd.Insert t k v)) bs d (parted (cmd.Insert t k v)) [] 0

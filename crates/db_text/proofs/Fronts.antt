@@ -82,9 +82,9 @@ module _ (vs : List (List ℕ)) (ls : List Left) (ws : List (List ℕ)) where
       by (b ∷ r) g k = run-same vs (vs ++ name ∷ []) (More name ∷ ls) ls b r n (if_not (is_table_byte b && nat_lt (length name) 32) _ _ (ap (λ z. z && nat_lt (length name) 32) g)) ∙ k n
   more-front (x ∷ f) r name h l g k n =
       run-step vs (More name ∷ ls) x (f ++ r) n (state vs (More (name ++ x ∷ []) ∷ ls))
-        (if_so (is_table_byte x && nat_lt (length name) 32) _ _ (both (is_table_byte x) (nat_lt (length name) 32) (first-and (is_table_byte x) (list_all is_table_byte f) h) (below-is (length name) (omega (arith, l)))))
+      (if_so (is_table_byte x && nat_lt (length name) 32) _ _ (both (is_table_byte x) (nat_lt (length name) 32) (first-and (is_table_byte x) (list_all is_table_byte f) h) (below-is (length name) (omega (arith, l)))))
       ∙ more-front f r (name ++ x ∷ []) (second-and (is_table_byte x) (list_all is_table_byte f) h) (one-more name x (length f) l) g
-          (subst (λ z. Takes (vs ++ z ∷ []) ls r ws) (sym (append_assoc name (x ∷ []) f)) k) (n + 1)
+      (subst (λ z. Takes (vs ++ z ∷ []) ls r ws) (sym (append_assoc name (x ∷ []) f)) k) (n + 1)
     where
       one-more : (name : List ℕ) (x l : ℕ) → length name + suc l ≤ 32 → length (name ++ x ∷ []) + l ≤ 32
       one-more name x l h = omega (arith, length-append name (x ∷ []))
@@ -199,12 +199,12 @@ takes-parts (statement.Word w ∷ ps) bs d k vs =
     (subst (λ z. Takes vs (Word z ∷ parts_left ps) (d.0 ++ d.1) (vs ++ texts_of ps)) d.3 (word-front vs (parts_left ps) (vs ++ texts_of ps) d.0 d.1 (takes-parts ps d.1 d.4 k vs)))
 takes-parts (statement.Name t ∷ ps) bs d k vs =
     let rest : Takes (vs ++ t ∷ []) (parts_left ps) d.1 (vs ++ t ∷ texts_of ps) =
-      subst (λ z. Takes (vs ++ t ∷ []) (parts_left ps) d.1 z) (append_assoc vs (t ∷ []) (texts_of ps)) (takes-parts ps d.1 d.4 k.1 (vs ++ t ∷ [])) in
+    subst (λ z. Takes (vs ++ t ∷ []) (parts_left ps) d.1 z) (append_assoc vs (t ∷ []) (texts_of ps)) (takes-parts ps d.1 d.4 k.1 (vs ++ t ∷ [])) in
     subst (λ z. Takes vs (Name ∷ parts_left ps) z (vs ++ t ∷ texts_of ps)) (sym d.2)
     (subst (λ z. Takes vs (Name ∷ parts_left ps) (z ++ d.1) (vs ++ t ∷ texts_of ps)) (sym d.3.0)
     (name-front vs (parts_left ps) (vs ++ t ∷ texts_of ps) t d.1 d.3.1 (no-start is_table_byte small-table ps d.1 d.4 k.0) rest))
 takes-parts (statement.Quoted t ∷ ps) bs d k vs =
     let rest : Takes (vs ++ t ∷ []) (parts_left ps) d.1 (vs ++ t ∷ texts_of ps) =
-      subst (λ z. Takes (vs ++ t ∷ []) (parts_left ps) d.1 z) (append_assoc vs (t ∷ []) (texts_of ps)) (takes-parts ps d.1 d.4 k.1 (vs ++ t ∷ [])) in
+    subst (λ z. Takes (vs ++ t ∷ []) (parts_left ps) d.1 z) (append_assoc vs (t ∷ []) (texts_of ps)) (takes-parts ps d.1 d.4 k.1 (vs ++ t ∷ [])) in
     subst (λ z. Takes vs (Quoted ∷ parts_left ps) z (vs ++ t ∷ texts_of ps)) (sym (d.2 ∙ (ap (λ z. z ++ d.1) d.3 ∙ ap (λ z. 39 ∷ z) (append_assoc (doubled t) (39 ∷ []) d.1))))
     (quoted-front vs (parts_left ps) (vs ++ t ∷ texts_of ps) t d.1 (no-start is_quote small-quote ps d.1 d.4 k.0) rest)

@@ -95,19 +95,22 @@ back vs (Word (c ∷ w) ∷ ps) b =
 back vs (Name ∷ ps) b =
     by-test (Back vs (Name ∷ ps) b) (is_letter b) _ _
     (λ h ws bs d.
-      let l : length d.0 ≤ 31 = omega (arith, d.3.1) in
-      (b ∷ d.0, d.1, ap (λ z. b ∷ z) d.2, both (is_letter b) _ h (both (list_all is_table_byte d.0) (nat_le (length d.0) 31) d.3.0 (at-most-31 (length d.0) l)), d.4))
+    let l : length d.0 ≤ 31 = omega (arith, d.3.1) in
+    (b ∷ d.0, d.1, ap (λ z. b ∷ z) d.2, both (is_letter b) _ h (both (list_all is_table_byte d.0) (nat_le (length d.0) 31) d.3.0 (at-most-31 (length d.0) l)), d.4))
     (λ h. tt)
 back vs (More name ∷ ps) b =
     by-test (Back vs (More name ∷ ps) b) (is_table_byte b && nat_lt (length name) 32) _ _
     (λ h ws bs d.
-      let l : length name < 32 = below-32 (length name) (second-and (is_table_byte b) (nat_lt (length name) 32) h) in
-      (b ∷ d.0, d.1, ap (λ z. b ∷ z) d.2,
-        (both (is_table_byte b) (list_all is_table_byte d.0) (first-and (is_table_byte b) (nat_lt (length name) 32) h) d.3.0, one-less (length d.0) 0 name b l d.3.1),
-        subst (λ z. Rel (vs ++ z ∷ []) ps ws d.1) (append_assoc name (b ∷ []) d.0) d.4))
+    let l : length name < 32 = below-32 (length name) (second-and (is_table_byte b) (nat_lt (length name) 32) h) in (
+      b ∷ d.0,
+      d.1,
+      ap (λ z. b ∷ z) d.2,
+      (both (is_table_byte b) (list_all is_table_byte d.0) (first-and (is_table_byte b) (nat_lt (length name) 32) h) d.3.0, one-less (length d.0) 0 name b l d.3.1),
+      subst (λ z. Rel (vs ++ z ∷ []) ps ws d.1) (append_assoc name (b ∷ []) d.0) d.4,
+    ))
     (λ h. wider vs (vs ++ name ∷ []) (More name ∷ ps) ps b
-      (λ ws bs d. ([], b ∷ bs, refl, (refl, omega arith), subst (λ z. Rel (vs ++ z ∷ []) ps ws (b ∷ bs)) (sym (append-nil name)) d))
-      (back (vs ++ name ∷ []) ps b))
+    (λ ws bs d. ([], b ∷ bs, refl, (refl, omega arith), subst (λ z. Rel (vs ++ z ∷ []) ps ws (b ∷ bs)) (sym (append-nil name)) d))
+    (back (vs ++ name ∷ []) ps b))
 back vs (Quoted ∷ ps) b =
     by-test (Back vs (Quoted ∷ ps) b) (b == 39) _ _
     (λ h ws bs d. (d.0, d.1, (λ i. is-byte b 39 h i ∷ d.2 i), d.3))
@@ -115,9 +118,12 @@ back vs (Quoted ∷ ps) b =
 back vs (Inside text ∷ ps) b =
     by-test (Back vs (Inside text ∷ ps) b) (b == 39) _ _
     (λ h ws bs d. behind-quote vs text ps b (is-byte b 39 h) ws bs d)
-    (λ h ws bs d.
-      (b ∷ d.0, d.1, ap (λ z. b ∷ z) d.2 ∙ ap (λ z. z ++ 39 ∷ d.1) (sym (doubled-other b d.0 h)),
-        subst (λ z. Rel (vs ++ z ∷ []) ps ws d.1) (append_assoc text (b ∷ []) d.0) d.3))
+    (λ h ws bs d. (
+      b ∷ d.0,
+      d.1,
+      ap (λ z. b ∷ z) d.2 ∙ ap (λ z. z ++ 39 ∷ d.1) (sym (doubled-other b d.0 h)),
+      subst (λ z. Rel (vs ++ z ∷ []) ps ws d.1) (append_assoc text (b ∷ []) d.0) d.3,
+    ))
   where
     behind-quote : (vs : List (List ℕ)) (text : List ℕ) (ps : List Left) (b : ℕ) → b ≡ 39 → (ws : List (List ℕ)) (bs : List ℕ) → Rel vs (Shut text ∷ ps) ws bs → Rel vs (Inside text ∷ ps) ws (b ∷ bs)
     behind-quote vs text ps b h ws bs (inl d) = ([], bs, ap (λ z. z ∷ bs) h, subst (λ z. Rel (vs ++ z ∷ []) ps ws bs) (sym (append-nil text)) d)

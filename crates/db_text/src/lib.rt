@@ -3,6 +3,7 @@
 //! `read_cmd` tries the forms one after the other. Each is a list of parts, and the bytes are read part by part; where
 //! no form takes all bytes, the place is the farthest at which one of them stopped.
 #![tactic(auto)]
+
 ghost use Rattle.std.specs.Prelude.{◌≡◌, ◌⊎◌, ◌≤◌, ℕ, IfOk, Err};
 ghost use Rattle.sml_syntax.specs.declared.database.DbCmd.{DbCmd as Command};
 ghost use Rattle.sml_syntax.specs.Statements.{Statement, NoStatement};

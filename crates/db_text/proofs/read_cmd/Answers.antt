@@ -43,9 +43,9 @@ loop-form-preserved c =
     record {
       whole = refl;
       stops = λ place l a.
-        c.loop-form.invariant.stops place (omega (arith, l, c.farther.ensures.first))
-          (stops_more bs place c.in-Stops.at f (drop (i + 1) forms) (drop i forms) e h (omega (arith, l, c.farther.ensures.second)) a);
-      some = elim c.farther.ensures.one [
+          c.loop-form.invariant.stops place (omega (arith, l, c.farther-place.ensures.first))
+          (stops_more bs place c.in-Stops.at f (drop (i + 1) forms) (drop i forms) e h (omega (arith, l, c.farther-place.ensures.second)) a);
+      some = elim c.farther-place.ensures.one [
         | inl g ↦ subst (SomeStops bs) (sym g) c.loop-form.invariant.some
         | inr g ↦ subst (SomeStops bs) (sym g) (inr (f, h))
       ];

@@ -19,4 +19,4 @@ returns-then-contains-clause-plan c =
     let e : c.saturating_add-self-inside.result ≡ one_more calls = c.saturating_add-self-inside.ensures in
     let f : c.saturating_add-self-inside-then-contains.result ≡ one_more c.self.inside.faults = c.saturating_add-self-inside-then-contains.ensures in
     λ x. (λ i. Some (record { fails = c.self.inside.fails.items; calls = e i; faults = (f ∙ sym (if_so (list_any (λ n. n == calls) c.self.inside.fails.items) (one_more c.self.inside.faults) c.self.inside.faults h)) i }))
-        ∙ ap (λ (k : KeeperMeaning). plan_after k.plan) c.self.view_is
+    ∙ ap (λ (k : KeeperMeaning). plan_after k.plan) c.self.view_is

@@ -17,11 +17,11 @@ returns-clause-ok c =
     let w = c.insert_row.new.table in
     if_ok c.insert_row.result _ _ _ c.insert_row.ensures.answer c.insert_row.ensures.ok
     (λ a g k. row_inserted c.args.name.now c.args.self.now c.self.inside.tables (sym c.self.view_is) c.in-Some.table.now w (c.get_mut.follows.lender w)
-      (c.in-Some.ensures.value ∙ looked c.self.inside.tables _ _ c.as_bytes.ensures) ((c.get_mut.follows.holds w).0 ∙ set_by c.self.inside.tables _ _ c.as_bytes.ensures w) c.args.key.now c.args.value.now a g k)
+    (c.in-Some.ensures.value ∙ looked c.self.inside.tables _ _ c.as_bytes.ensures) ((c.get_mut.follows.holds w).0 ∙ set_by c.self.inside.tables _ _ c.as_bytes.ensures w) c.args.key.now c.args.value.now a g k)
 
 pub returns-clause-err : goal.returns-clause-err
 returns-clause-err c =
     let w = c.insert_row.new.table in
     on_err c.insert_row.result _ _ c.insert_row.ensures.err
     (λ g. row_kept c.args.name.now c.args.self.now c.self.inside.tables (sym c.self.view_is) c.in-Some.table.now w (c.get_mut.follows.lender w)
-      (c.in-Some.ensures.value ∙ looked c.self.inside.tables _ _ c.as_bytes.ensures) ((c.get_mut.follows.holds w).0 ∙ set_by c.self.inside.tables _ _ c.as_bytes.ensures w) g)
+    (c.in-Some.ensures.value ∙ looked c.self.inside.tables _ _ c.as_bytes.ensures) ((c.get_mut.follows.holds w).0 ∙ set_by c.self.inside.tables _ _ c.as_bytes.ensures w) g)
