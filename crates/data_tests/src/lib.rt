@@ -9,11 +9,7 @@ mod copied;
 #[cfg(test)]
 mod data;
 #[cfg(test)]
-mod keepers;
-#[cfg(test)]
 mod requests;
-#[cfg(test)]
-mod statements;
 #[cfg(test)]
 mod tests;
 #[cfg(test)]

@@ -1,12 +1,11 @@
 -- The commands on ordered maps are those of the database machine.
-use Rattle.std.proofs.Common.{◌≡◌, ℕ, List, [], ◌∷◌, map, Bool, true, false, Option, Some, None, Result, Ok, Err, IfOk, OnOk, OnErr, refl, ap, sym, ◌∙◌, subst}
-use Rattle.std.specs.Prelude.{is_some, if◌then◌else◌}
+use Rattle.std.proofs.Common.{◌≡◌, ℕ, List, Bool, true, false, Some, None, Result, Ok, Err, IfOk, OnOk, OnErr, refl, ap, sym, ◌∙◌}
+use Rattle.std.specs.Prelude.{is_some}
 use Rattle.std.specs.Map.{set_value}
 use Rattle.std.specs.BTreeMap.{BTreeMap, is_at, get_by}
 use Rattle.sml_syntax.specs.declared.database.DbAns.{DbAns}
 use Rattle.sml_syntax.specs.declared.database.DbAns.TheVariants as ans
-use Rattle.sml_syntax.specs.DatabaseAnswers.{row_of_entry}
-use Rattle.db_keeper.specs.DatabaseMachine.{Table, Tables, Effect, effect, on_table, inserted, rows_of_value, under, with_new, with_changed, without}
+use Rattle.db_keeper.specs.DatabaseMachine.{Table, Tables, Effect, effect, on_table, inserted, under, with_new, with_changed, without}
 use Rattle.db_keeper.specs.Shown.{table_of, tables_of, insert_answer, with_row}
 use Rattle.db_keeper.proofs.Maps.{Key, Tree, query, table-found, table-changed, table-kept, if_so, if_not}
 

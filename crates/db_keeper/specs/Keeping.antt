@@ -1,6 +1,6 @@
 -- What a keeper tells of itself, and what one call does to it. `None` is what a keeper doesn't tell.
-use Rattle.std.specs.Prelude.{◌≡◌, ◌↔◌, ℕ, List, Option, Some, None, Result, Ok, Err, IsTrue}
-use Rattle.outside_world.specs.FaultPlan.{FaultPlan, next_fails, after_call}
+use Rattle.std.specs.Prelude.{◌≡◌, ℕ, Option, Some, None}
+use Rattle.outside_world.specs.FaultPlan.{FaultPlan}
 use Rattle.db_keeper.specs.DatabaseMachine.{Tables, TableStep}
 use Rattle.sml_syntax.specs.declared.database.DbCmd.{DbCmd}
 use Rattle.sml_syntax.specs.declared.database.DbAns.{DbAns}

@@ -1,5 +1,5 @@
 -- Ordered maps of std as the maps of the database machine.
-use Rattle.std.specs.Prelude.{◌≡◌, ℕ, List, map, is_some, if◌then◌else◌, Result, Option}
+use Rattle.std.specs.Prelude.{ℕ, List, map, is_some, if◌then◌else◌}
 use Rattle.std.specs.declared.alloc.Global.{Global}
 use Rattle.std.specs.declared.vec.Vec.{Vec}
 use Rattle.std.specs.BTreeMap.{BTreeMap}

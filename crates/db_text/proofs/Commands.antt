@@ -1,10 +1,9 @@
 -- What reading by the forms says of the statements.
-use Rattle.std.proofs.Common.{◌≡◌, ◌⊎◌, inl, inr, ℕ, suc, ◌+◌, ◌<◌, ◌≤◌, List, [], ◌∷◌, ◌++◌, length, take, drop, map, Bool, true, false, Result, Ok, Err, refl, ap, sym, ◌∙◌, subst, append_assoc, length-append, arith}
+use Rattle.std.proofs.Common.{◌≡◌, ◌⊎◌, inl, inr, ℕ, ◌+◌, ◌<◌, ◌≤◌, List, [], ◌∷◌, ◌++◌, length, take, drop, map, Bool, true, false, Result, Ok, Err, refl, ap, sym, ◌∙◌, subst, append_assoc, arith}
 use Rattle.std.specs.Prelude.{if◌then◌else◌, ◌==◌, codes, nat_lt}
 use Rattle.std.specs.List.{list_all}
 use Rattle.std.proofs.Math.Seq.{drop-append_seam}
-use Rattle.std.proofs.lemmas.List.{length-map, length-take}
-use Rattle.std.proofs.lemmas.Bool.Decides.{nat_tests}
+use Rattle.std.proofs.lemmas.List.{length-map}
 use Rattle.sml_syntax.specs.declared.database.DbCmd.{DbCmd}
 use Rattle.sml_syntax.specs.declared.database.DbCmd.TheVariants as cmd
 use Rattle.sml_syntax.specs.Statements as statement
@@ -13,11 +12,11 @@ use Rattle.db_text.specs.declared.forms.Form.{Form}
 use Rattle.db_text.specs.declared.forms.Form.TheVariants as form
 use Rattle.db_text.specs.declared.refusal.DbRefusal.{DbRefusal}
 use Rattle.db_text.specs.declared.refusal.DbRefusal.TheVariants as refusal
-use Rattle.db_text.specs.Reading.{Left, Word, Outcome, Whole, Stops, run}
+use Rattle.db_text.specs.Reading.{Whole, Stops, run}
 use Rattle.db_text.specs.Answers.{parts_left, form_left, command_of, HasTexts, GivesCommand, GivesPlace}
 use Rattle.db_text.proofs.Meaning.{Rel, SmallWords, Begun, whole-back, stop-back, stop-bound, append-nil, first-and, second-and}
 use Rattle.db_text.proofs.Scans.{below, not-below}
-use Rattle.db_text.proofs.Fronts.{NoFirst, NoStart, Parted, no-start, small-space, letter-space, space-table, space-quote, texts_of, takes-parts}
+use Rattle.db_text.proofs.Fronts.{NoFirst, Parted, no-start, small-space, letter-space, space-table, space-quote, texts_of, takes-parts}
 
 -- from a command to its run
 

@@ -1,13 +1,13 @@
 -- A run takes the bytes of parts whole.
-use Rattle.std.proofs.Common.{◌≡◌, ◌⊎◌, inl, inr, ℕ, suc, ◌+◌, ◌-◌, ◌<◌, ◌≤◌, List, [], ◌∷◌, ◌++◌, length, map, Bool, true, false, ◌&&◌, ◌||◌, Option, Some, None, refl, ap, sym, ◌∙◌, subst, append_assoc, length-append, arith}
-use Rattle.std.specs.Prelude.{if◌then◌else◌, ◌==◌, nat_lt, nat_le}
+use Rattle.std.proofs.Common.{◌≡◌, ℕ, suc, ◌+◌, ◌<◌, ◌≤◌, List, [], ◌∷◌, ◌++◌, length, map, Bool, true, false, ◌&&◌, refl, ap, sym, ◌∙◌, subst, append_assoc, length-append, arith}
+use Rattle.std.specs.Prelude.{◌==◌, nat_lt, nat_le}
 use Rattle.std.specs.List.{list_all}
 use Rattle.std.proofs.lemmas.Bool.Decides.{nat_tests}
-use Rattle.sml_syntax.specs.Spelling.{is_letter, is_digit}
+use Rattle.sml_syntax.specs.Spelling.{is_letter}
 use Rattle.sml_syntax.specs.Statements as statement
 use Rattle.sml_syntax.specs.Statements.{is_space, is_table_byte, is_table_name, small, doubled, AreParts}
-use Rattle.db_text.specs.Reading.{Left, Spaces, Gap, Word, Name, More, Quoted, Inside, Shut, State, state, step, Outcome, Whole, Stops, finish, run, is_quote}
-use Rattle.db_text.specs.Answers.{part_left, parts_left}
+use Rattle.db_text.specs.Reading.{Left, Spaces, Gap, Word, Name, More, Quoted, Inside, Shut, state, Whole, run, is_quote}
+use Rattle.db_text.specs.Answers.{parts_left}
 use Rattle.db_text.proofs.Scans.{run-step, run-same, past_any, if_so, if_not}
 use Rattle.db_text.proofs.Meaning.{both, first-and, second-and, append-nil, is-self, doubled-quote, doubled-other}
 

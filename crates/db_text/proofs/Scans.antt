@@ -1,5 +1,5 @@
 -- A run over a part, as the code makes it.
-use Rattle.std.proofs.Common.{◌≡◌, ◌⊎◌, inl, inr, ℕ, suc, ◌+◌, ◌-◌, ◌<◌, ◌≤◌, List, [], ◌∷◌, ◌++◌, length, drop, get_or, Bool, true, false, ◌&&◌, Option, Some, None, refl, ap, sym, ◌∙◌, subst, add-one, arith}
+use Rattle.std.proofs.Common.{◌≡◌, ◌⊎◌, inl, inr, ℕ, ◌+◌, ◌<◌, ◌≤◌, List, [], ◌∷◌, ◌++◌, length, drop, get_or, Bool, true, false, ◌&&◌, Some, None, refl, ap, sym, ◌∙◌, add-one, arith}
 use Rattle.std.proofs.Math.Seq.{drop-cons}
 use Rattle.std.proofs.lemmas.List.{drop_all}
 use Rattle.std.specs.Prelude.{if◌then◌else◌, ◌==◌, nat_lt}
@@ -7,7 +7,7 @@ use Rattle.std.specs.Option.{option_map_or}
 use Rattle.std.proofs.lemmas.Bool.Decides.{nat_tests}
 use Rattle.sml_syntax.specs.Spelling.{is_letter}
 use Rattle.sml_syntax.specs.Statements.{is_space, is_table_byte, small}
-use Rattle.db_text.specs.Reading.{Left, Spaces, Gap, Word, Name, More, Quoted, Inside, Shut, State, state, step, Outcome, Whole, Stops, finish, run, stands_at, is_quote, is_small}
+use Rattle.db_text.specs.Reading.{Left, Spaces, Gap, Word, Name, More, Quoted, Inside, Shut, State, state, step, Whole, Stops, finish, run, stands_at, is_quote, is_small}
 
 at_byte : (bs : List ℕ) (i : ℕ) → i < length bs → drop i bs ≡ get_or bs i 0 ∷ drop (i + 1) bs
 at_byte bs i h = drop-cons bs i 0 h ∙ ap (λ n. get_or bs i 0 ∷ drop n bs) (sym (add-one i))

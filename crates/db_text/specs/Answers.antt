@@ -1,5 +1,5 @@
 -- What the reader answers.
-use Rattle.std.specs.Prelude.{◌≡◌, ◌⊎◌, ℕ, List, [], ◌∷◌, map, codes, Result, Ok, Err}
+use Rattle.std.specs.Prelude.{◌≡◌, ◌⊎◌, ℕ, List, [], ◌∷◌, map, Result, Ok, Err}
 use Rattle.std.specs.List.{slice_index_or}
 use Rattle.sml_syntax.specs.declared.database.DbCmd.{DbCmd}
 use Rattle.sml_syntax.specs.declared.database.DbCmd.TheVariants as cmd

@@ -1,5 +1,5 @@
 -- How a statement is read, a byte at a time: the texts so far, and the parts that are left.
-use Rattle.std.specs.Prelude.{◌≡◌, ℕ, ◌+◌, ◌≤◌, List, [], ◌∷◌, ◌++◌, length, drop, map, if◌then◌else◌, ◌==◌, ◌&&◌, nat_lt, Option, Some, None, Bool, slice_index}
+use Rattle.std.specs.Prelude.{◌≡◌, ℕ, ◌+◌, ◌≤◌, List, [], ◌∷◌, ◌++◌, length, drop, if◌then◌else◌, ◌==◌, ◌&&◌, nat_lt, Option, Some, None, Bool, slice_index}
 use Rattle.std.specs.Option.{option_map_or}
 use Rattle.sml_syntax.specs.Spelling.{is_letter}
 use Rattle.sml_syntax.specs.Statements.{is_space, is_table_byte, small}

@@ -1,4 +1,4 @@
-use Rattle.std.proofs.Common.{◌≡◌, sym, ◌∙◌, true, false}
+use Rattle.std.proofs.Common.{sym, ◌∙◌, true, false}
 use Rattle.db_keeper.proofs.Maps.{asked, row-stands, row-new, if_so, if_not}
 use Rattle.db_keeper.proofs.table.insert_row.Goals as goal
 

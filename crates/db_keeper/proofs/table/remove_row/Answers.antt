@@ -1,4 +1,4 @@
-use Rattle.std.proofs.Common.{◌≡◌, sym, ◌∙◌}
+use Rattle.std.proofs.Common.{◌∙◌}
 use Rattle.db_keeper.proofs.Maps.{out_by, row-out}
 use Rattle.db_keeper.proofs.table.remove_row.Goals as goal
 

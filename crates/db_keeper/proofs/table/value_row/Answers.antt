@@ -1,5 +1,4 @@
-use Rattle.std.proofs.Common.{◌≡◌, IfOk, Option, Some, None, Result, Ok, Err, List, ℕ, ap, sym, ◌∙◌, subst}
-use Rattle.std.specs.Option.{option_copied}
+use Rattle.std.proofs.Common.{◌≡◌, IfOk, Some, None, ap, sym, ◌∙◌, subst}
 use Rattle.db_keeper.specs.DatabaseMachine.{rows_of_value}
 use Rattle.db_keeper.proofs.Maps.{looked, row-found}
 use Rattle.db_keeper.proofs.table.value_row.Goals as goal

@@ -1,4 +1,4 @@
-use Rattle.std.proofs.Common.{◌≡◌, [], ap, sym, ◌∙◌, drop, length, map}
+use Rattle.std.proofs.Common.{[], ap, ◌∙◌, drop, map}
 use Rattle.std.proofs.lemmas.List.{drop_all}
 use Rattle.db_text.specs.Reading.{run, left_of}
 use Rattle.db_text.proofs.Scans.{stops_behind}

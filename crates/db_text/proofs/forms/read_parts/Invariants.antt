@@ -1,5 +1,5 @@
-use Rattle.std.proofs.Common.{◌≡◌, ℕ, ◌+◌, ◌-◌, ◌<◌, ◌≤◌, List, [], ◌∷◌, ◌++◌, length, drop, map, get_or}
-use Rattle.db_text.specs.Reading.{Left, Spaces, Gap, Word, Name, More, Quoted, Inside, Shut, run, left_of}
+use Rattle.std.proofs.Common.{◌≡◌, ◌≤◌, [], length, drop, map}
+use Rattle.db_text.specs.Reading.{run, left_of}
 use Rattle.db_text.proofs.forms.read_parts.Given as goal
 
 -- what runs from here with the other parts runs from the start

@@ -1,4 +1,4 @@
-use Rattle.std.proofs.Common.{◌≡◌, ◌∷◌, ◌++◌, [], ap, sym, ◌∙◌, drop, length, arith}
+use Rattle.std.proofs.Common.{◌≡◌, ◌∷◌, ◌++◌, [], ap, sym, ◌∙◌, drop, arith}
 use Rattle.db_text.specs.Reading.{More, run}
 use Rattle.db_text.proofs.Scans.{more_over, more_full}
 use Rattle.db_text.proofs.parts.read_name.Goals as goal

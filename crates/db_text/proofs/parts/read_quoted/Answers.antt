@@ -1,4 +1,4 @@
-use Rattle.std.proofs.Common.{◌≡◌, ◌∷◌, ◌++◌, [], ◌+◌, ap, sym, ◌∙◌, drop, length, arith}
+use Rattle.std.proofs.Common.{◌≡◌, ◌∷◌, ◌++◌, [], ◌+◌, ap, sym, ◌∙◌, drop, arith}
 use Rattle.db_text.specs.Reading.{run}
 use Rattle.db_text.proofs.Scans.{inside_at, shut_over}
 use Rattle.db_text.proofs.parts.read_quoted.Goals as goal

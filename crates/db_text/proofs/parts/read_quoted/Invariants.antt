@@ -1,5 +1,5 @@
-use Rattle.std.proofs.Common.{◌≡◌, ℕ, ◌+◌, ◌-◌, ◌<◌, ◌≤◌, List, [], ◌∷◌, ◌++◌, length, drop, map, get_or}
-use Rattle.db_text.specs.Reading.{Left, Spaces, Gap, Word, Name, More, Quoted, Inside, Shut, run, left_of}
+use Rattle.std.proofs.Common.{◌≡◌, ℕ, ◌-◌, ◌≤◌, List, ◌∷◌, length, drop}
+use Rattle.db_text.specs.Reading.{Left, Quoted, Inside, run}
 use Rattle.db_text.proofs.parts.read_quoted.Given as goal
 
 -- what runs from here behind the text so far runs from its first quote

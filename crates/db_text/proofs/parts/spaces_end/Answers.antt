@@ -1,4 +1,4 @@
-use Rattle.std.proofs.Common.{◌≡◌, ◌+◌, ◌<◌, ◌≤◌, sym, ◌∙◌, arith}
+use Rattle.std.proofs.Common.{sym, ◌∙◌, arith}
 use Rattle.sml_syntax.specs.Statements.{is_space}
 use Rattle.db_text.proofs.Scans.{stands, spaces_at, spaces_over}
 use Rattle.db_text.proofs.parts.spaces_end.Goals as goal

@@ -1,4 +1,4 @@
-use Rattle.std.proofs.Common.{◌≡◌, ◌∷◌, ap, ◌∙◌, drop, length}
+use Rattle.std.proofs.Common.{◌∷◌, ap, ◌∙◌, drop}
 use Rattle.std.proofs.lemmas.List.{drop_all}
 use Rattle.db_text.specs.Reading.{Word, run}
 use Rattle.db_text.proofs.Scans.{word_over}

@@ -1,7 +1,7 @@
-use Rattle.std.proofs.Common.{◌≡◌, Bool, true, Some, Err, refl, ap, sym, ◌∙◌, subst}
+use Rattle.std.proofs.Common.{◌≡◌, true, Some, refl, ap, sym, ◌∙◌, subst}
 use Rattle.std.specs.Prelude.{◌==◌}
 use Rattle.std.specs.List.{list_any}
-use Rattle.outside_world.specs.FaultPlan.{FaultPlan, FailsAsPlanned, plan_after, one_more}
+use Rattle.outside_world.specs.FaultPlan.{FailsAsPlanned, plan_after, one_more}
 use Rattle.db_keeper.specs.Keeping.{KeeperMeaning}
 use Rattle.db_keeper.proofs.Maps.{if_so}
 use Rattle.db_keeper.proofs.map_keeper.MapKeeperKeeper.act.Goals as goal

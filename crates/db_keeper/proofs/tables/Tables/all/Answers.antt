@@ -1,4 +1,4 @@
-use Rattle.std.proofs.Common.{◌≡◌, ap, sym, ◌∙◌}
+use Rattle.std.proofs.Common.{ap, sym, ◌∙◌}
 use Rattle.sml_syntax.specs.declared.database.DbAns.TheVariants as ans
 use Rattle.db_keeper.specs.DatabaseMachine.{effect}
 use Rattle.db_keeper.proofs.Maps.{looked}

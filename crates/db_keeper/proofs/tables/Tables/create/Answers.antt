@@ -1,4 +1,4 @@
-use Rattle.std.proofs.Common.{◌≡◌, ap, sym, ◌∙◌, true, false}
+use Rattle.std.proofs.Common.{ap, sym, ◌∙◌, true, false}
 use Rattle.sml_syntax.specs.declared.database.DbAns.TheVariants as ans
 use Rattle.db_keeper.specs.DatabaseMachine.{effect}
 use Rattle.db_keeper.proofs.Maps.{asked, table-stands, table-new, if_so, if_not}
