@@ -1,5 +1,5 @@
 -- What a call does to the keepers of a database. The first of them stands, the others are spares in their order.
-use Rattle.std.specs.Prelude.{◌≡◌, ◌≤◌, ◌<◌, ℕ, List, [], ◌∷◌, Bool, true, false}
+use Rattle.std.specs.Prelude.{◌≡◌, ◌≤◌, List, [], ◌∷◌, Bool, true, false}
 use Rattle.sml_syntax.specs.declared.database.DbCmd.{DbCmd}
 use Rattle.sml_syntax.specs.declared.database.DbAns.{DbAns}
 use Rattle.sml_syntax.specs.declared.database.DbAns.TheVariants as ans
