@@ -15,6 +15,7 @@ use Rattle.sml_syntax.specs.declared.tree.PatForm.TheOpen.{PatForm-F}
 use Rattle.sml_syntax.specs.declared.tree.TyForm.TheOpen.{TyForm-F}
 use Rattle.sml_syntax.specs.Layers.{ExpLayer, DecLayer, PatLayer, form_of_exp, form_of_dec, form_of_pat}
 use Rattle.sml_syntax.specs.NestedTypes.{Found, TyLayer, form_of_ty}
+use Rattle.sml_syntax.specs.Nodes.{last_of}
 use Rattle.sml_syntax.specs.Grammar.{Is, items, decs_tree}
 
 -- a tree of the wider grammar, with its lacks
@@ -28,6 +29,21 @@ IsProgram tokens program = IsWide tokens program []
 -- some text of the wider grammar begins with these tokens
 abbrev pub BeginsProgram : List Token → Type 0
 BeginsProgram tokens = (rest : List Token) × (program : Program) × (lacks : List Found) × IsWide (tokens ++ rest) program lacks
+
+-- the place behind the first of these tokens: the first byte of the next one, or the end of the last
+abbrev pub place_behind : List Token → List Token → ℕ
+place_behind before [] = last_of before
+place_behind before (t ∷ after) = t.span.from
+
+-- where tokens stop being a program: they have no tree, those before the place begin a program, and with the next one they don't
+pub record IsUnexpected (tokens : List Token) (place : ℕ) : Type 0 where
+  pub before : List Token
+  pub after : List Token
+  pub split : tokens ≡ before ++ after
+  pub none : (program : Program) (lacks : List Found) → IsWide tokens program lacks → ⊥
+  pub begins : BeginsProgram before
+  pub longest : (t : Token) (ts : List Token) → after ≡ t ∷ ts → BeginsProgram (before ++ t ∷ []) → ⊥
+  pub place_is : place ≡ place_behind before after
 
 -- what holds of each of a list
 abbrev pub Each : {A : Type 0} → (A → Type 0) → List A → Type 0
