@@ -8,6 +8,8 @@ mod declarations;
 #[cfg(test)]
 mod expressions;
 #[cfg(test)]
+mod lex_table;
+#[cfg(test)]
 mod patterns;
 #[cfg(test)]
 mod tests;

@@ -107,7 +107,6 @@ fn refuses_other_scripts(rt: HostRuntime) -> Result<(), Fail> {
         "val _ = Web.write \"a\" (* a comment *)",
         "val _ = Web.write (* a comment *) \"a\"",
         "val _ = Web.write \"a\\n\"",
-        "val _ = Web.write \"a",
         "val _ = Web.write \"a\"\nval _ = Web.write \"b\"",
         "val _ = Web.write (Int.toString (12345 * 1))",
         "val _ = Web.write (Int.toString (~1 * 1))",
@@ -121,6 +120,38 @@ fn refuses_other_scripts(rt: HostRuntime) -> Result<(), Fail> {
                 script,
                 status: 3,
                 output: "refused hello.sml 0 NotBuilt\n",
+                ..HELLO
+            },
+        )?;
+    }
+    Ok(())
+}
+
+#[test]
+fn refuses_mistakes_with_their_places(rt: HostRuntime) -> Result<(), Fail> {
+    for (script, output) in [
+        (
+            "structure A = struct end",
+            "refused hello.sml 0 Unsupported Module\n",
+        ),
+        (
+            "val _ = 9223372036854775808",
+            "refused hello.sml 8 WideNumber\n",
+        ),
+        ("val _ = Web.write \"a", "refused hello.sml 18 OpenString\n"),
+        (
+            "val _ = Web.write \"a\u{e9}\" \u{e9}",
+            "refused hello.sml 24 BadByte\n",
+        ),
+        ("val _ = (* (* *)", "refused hello.sml 8 OpenComment\n"),
+        ("val _ = `a^(`b", "refused hello.sml 8 OpenQuote\n"),
+    ] {
+        check(
+            &rt,
+            &Run {
+                script,
+                status: 3,
+                output,
                 ..HELLO
             },
         )?;
@@ -259,8 +290,11 @@ fn padded<A: Allocator>(alloc: A, text: &str, length: usize) -> Result<String<A>
 }
 
 #[test]
-fn reads_4096_bytes(rt: HostRuntime) -> Result<(), Fail> {
-    for (length, status, output) in [(4096, 0, PAGE), (4097, 3, "refused hello.sml 0 NotBuilt\n")] {
+fn reads_files_up_to_their_limits(rt: HostRuntime) -> Result<(), Fail> {
+    for (length, status, output) in [
+        (1_048_576, 0, PAGE),
+        (1_048_577, 3, "refused hello.sml 0 NotBuilt\n"),
+    ] {
         let script = padded(rt.alloc(), SCRIPT, length)?;
         check(
             &rt,
@@ -272,5 +306,14 @@ fn reads_4096_bytes(rt: HostRuntime) -> Result<(), Fail> {
             },
         )?;
     }
-    Ok(())
+    let project = padded(rt.alloc(), PROJECT, 4097)?;
+    check(
+        &rt,
+        &Run {
+            project: project.as_str(),
+            status: 3,
+            output: "refused site 0 NotBuilt\n",
+            ..HELLO
+        },
+    )
 }

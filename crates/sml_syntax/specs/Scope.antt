@@ -12,6 +12,8 @@ use Rattle.sml_syntax.specs.declared.tree.Dec.{Dec}
 use Rattle.sml_syntax.specs.declared.tree.Rule.{Rule, out-Rule}
 use Rattle.sml_syntax.specs.declared.tree.Piece.{Piece, out-Piece}
 use Rattle.sml_syntax.specs.declared.tree.Program.{Program}
+use Rattle.sml_syntax.specs.declared.tree.DecForm.{DecForm}
+use Rattle.sml_syntax.specs.declared.tree.ExpForm.{ExpForm}
 use Rattle.sml_syntax.specs.declared.tree.DecForm.TheOpen.{DecForm-F, ExpForm-F, Piece-F}
 use Rattle.sml_syntax.specs.declared.tree.PatForm.TheOpen.{PatForm-F}
 use Rattle.sml_syntax.specs.Layers.{ExpLayer, DecLayer, PatLayer, form_of_exp, form_of_dec, form_of_pat}
@@ -67,7 +69,7 @@ abbrev pub pat_name : PatLayer → Option (List ℕ)
 pat_name (PatForm-F.Name name) = Some name
 pat_name _ = None
 
-abbrev pub with_antiquoted : Piece-F Exp → List Exp → List Exp
+abbrev pub with_antiquoted : Piece-F DecForm ExpForm Piece Dec Exp Rule → List Exp → List Exp
 with_antiquoted (Piece-F.Plain text) es = es
 with_antiquoted (Piece-F.Anti e) es = e ∷ es
 
@@ -174,20 +176,20 @@ constructor_names (bind ∷ binds) = first_parts bind.2 ++ constructor_names bin
 
 -- the names that a declaration adds to a scope
 mutual
-  pub data Adds (scope : Names) : Dec → Names → Type 0 where
-    adds_val : {d : Dec} {binds : List (Pat × Exp)} {names : List (List ℕ)} → form_of_dec d ≡ DecForm-F.Val binds → BindsAll scope (first_parts binds) names →
+  pub data Adds : Names → Dec → Names → Type 0 where
+    adds_val : {scope : Names} {d : Dec} {binds : List (Pat × Exp)} {names : List (List ℕ)} → form_of_dec d ≡ DecForm-F.Val binds → BindsAll scope (first_parts binds) names →
         Adds scope d (variables_only names)
-    adds_rec : {d : Dec} {binds : List (List ℕ × List Rule)} → form_of_dec d ≡ DecForm-F.ValRec binds → Adds scope d (variables_only (first_parts binds))
-    adds_abbrev : {d : Dec} {binds : List TypeBinding} → form_of_dec d ≡ DecForm-F.Abbrev binds → Adds scope d (record { values = []; types = type_names binds })
-    adds_data : {d : Dec} {binds : List DatatypeBinding} → form_of_dec d ≡ DecForm-F.DataDef binds →
+    adds_rec : {scope : Names} {d : Dec} {binds : List (List ℕ × List Rule)} → form_of_dec d ≡ DecForm-F.ValRec binds → Adds scope d (variables_only (first_parts binds))
+    adds_abbrev : {scope : Names} {d : Dec} {binds : List TypeBinding} → form_of_dec d ≡ DecForm-F.Abbrev binds → Adds scope d (record { values = []; types = type_names binds })
+    adds_data : {scope : Names} {d : Dec} {binds : List DatatypeBinding} → form_of_dec d ≡ DecForm-F.DataDef binds →
         Adds scope d (record { values = as_constructors (constructor_names binds); types = datatype_names binds })
-    adds_exn : {d : Dec} {binds : Constructors} → form_of_dec d ≡ DecForm-F.ExnDef binds → Adds scope d (record { values = as_constructors (first_parts binds); types = [] })
-    adds_local : {d : Dec} {hidden shown : List Dec} {first second : Names} → form_of_dec d ≡ DecForm-F.Local hidden shown →
+    adds_exn : {scope : Names} {d : Dec} {binds : Constructors} → form_of_dec d ≡ DecForm-F.ExnDef binds → Adds scope d (record { values = as_constructors (first_parts binds); types = [] })
+    adds_local : {scope : Names} {d : Dec} {hidden shown : List Dec} {first second : Names} → form_of_dec d ≡ DecForm-F.Local hidden shown →
         AddsAll scope hidden first → AddsAll (inside first scope) shown second → Adds scope d second
 
-  pub data AddsAll (scope : Names) : List Dec → Names → Type 0 where
-    adds_nothing : AddsAll scope [] (record { values = []; types = [] })
-    adds_more : {d : Dec} {ds : List Dec} {first rest : Names} → Adds scope d first → AddsAll (inside first scope) ds rest → AddsAll scope (d ∷ ds) (inside rest first)
+  pub data AddsAll : Names → List Dec → Names → Type 0 where
+    adds_nothing : {scope : Names} → AddsAll scope [] (record { values = []; types = [] })
+    adds_more : {scope : Names} {d : Dec} {ds : List Dec} {first rest : Names} → Adds scope d first → AddsAll (inside first scope) ds rest → AddsAll scope (d ∷ ds) (inside rest first)
 
 -- Names without a binding, with their places
 
@@ -205,41 +207,41 @@ pub data UnboundInPat (scope : Names) : Pat → ℕ → Type 0 where
   in_pat_type : {p : Pat} {t : Ty} {place : ℕ} → pat_type (form_of_pat p) ≡ Some t → UnboundInType scope [] t place → UnboundInPat scope p place
 
 mutual
-  pub data UnboundInExp (scope : Names) : Exp → ℕ → Type 0 where
-    unbound_name : {e : Exp} {name : List ℕ} → form_of_exp e ≡ ExpForm-F.Name name → status name scope.values ≡ None → UnboundInExp scope e (exp_start e)
-    in_part : {e d : Exp} {place : ℕ} → IsOneOf d (exp_parts (form_of_exp e)) → UnboundInExp scope d place → UnboundInExp scope e place
-    in_rule : {e : Exp} {r : Rule} {place : ℕ} → IsOneOf r (exp_rules (form_of_exp e)) → UnboundInRule scope r place → UnboundInExp scope e place
-    in_constraint : {e : Exp} {t : Ty} {place : ℕ} → exp_type (form_of_exp e) ≡ Some t → UnboundInType scope [] t place → UnboundInExp scope e place
-    in_let : {e : Exp} {ds : List Dec} {es : List Exp} {place : ℕ} → form_of_exp e ≡ ExpForm-F.Let ds es → UnboundInDecs scope ds place → UnboundInExp scope e place
-    in_let_body : {e d : Exp} {ds : List Dec} {es : List Exp} {more : Names} {place : ℕ} → form_of_exp e ≡ ExpForm-F.Let ds es → AddsAll scope ds more →
+  pub data UnboundInExp : Names → Exp → ℕ → Type 0 where
+    unbound_name : {scope : Names} {e : Exp} {name : List ℕ} → form_of_exp e ≡ ExpForm-F.Name name → status name scope.values ≡ None → UnboundInExp scope e (exp_start e)
+    in_part : {scope : Names} {e d : Exp} {place : ℕ} → IsOneOf d (exp_parts (form_of_exp e)) → UnboundInExp scope d place → UnboundInExp scope e place
+    in_rule : {scope : Names} {e : Exp} {r : Rule} {place : ℕ} → IsOneOf r (exp_rules (form_of_exp e)) → UnboundInRule scope r place → UnboundInExp scope e place
+    in_constraint : {scope : Names} {e : Exp} {t : Ty} {place : ℕ} → exp_type (form_of_exp e) ≡ Some t → UnboundInType scope [] t place → UnboundInExp scope e place
+    in_let : {scope : Names} {e : Exp} {ds : List Dec} {es : List Exp} {place : ℕ} → form_of_exp e ≡ ExpForm-F.Let ds es → UnboundInDecs scope ds place → UnboundInExp scope e place
+    in_let_body : {scope : Names} {e d : Exp} {ds : List Dec} {es : List Exp} {more : Names} {place : ℕ} → form_of_exp e ≡ ExpForm-F.Let ds es → AddsAll scope ds more →
         IsOneOf d es → UnboundInExp (inside more scope) d place → UnboundInExp scope e place
 
-  pub data UnboundInRule (scope : Names) : Rule → ℕ → Type 0 where
-    in_pattern : {r : Rule} {place : ℕ} → UnboundInPat scope (out-Rule r).pat place → UnboundInRule scope r place
-    in_body : {r : Rule} {names : List (List ℕ)} {place : ℕ} → Binds scope (out-Rule r).pat names → UnboundInExp (inside (variables_only names) scope) (out-Rule r).body place →
+  pub data UnboundInRule : Names → Rule → ℕ → Type 0 where
+    in_pattern : {scope : Names} {r : Rule} {place : ℕ} → UnboundInPat scope (out-Rule r).pat place → UnboundInRule scope r place
+    in_body : {scope : Names} {r : Rule} {names : List (List ℕ)} {place : ℕ} → Binds scope (out-Rule r).pat names → UnboundInExp (inside (variables_only names) scope) (out-Rule r).body place →
         UnboundInRule scope r place
 
-  pub data UnboundInDec (scope : Names) : Dec → ℕ → Type 0 where
-    in_val_pattern : {d : Dec} {binds : List (Pat × Exp)} {bind : Pat × Exp} {place : ℕ} → form_of_dec d ≡ DecForm-F.Val binds → IsOneOf bind binds →
+  pub data UnboundInDec : Names → Dec → ℕ → Type 0 where
+    in_val_pattern : {scope : Names} {d : Dec} {binds : List (Pat × Exp)} {bind : Pat × Exp} {place : ℕ} → form_of_dec d ≡ DecForm-F.Val binds → IsOneOf bind binds →
         UnboundInPat scope bind.0 place → UnboundInDec scope d place
-    in_val : {d : Dec} {binds : List (Pat × Exp)} {bind : Pat × Exp} {place : ℕ} → form_of_dec d ≡ DecForm-F.Val binds → IsOneOf bind binds →
+    in_val : {scope : Names} {d : Dec} {binds : List (Pat × Exp)} {bind : Pat × Exp} {place : ℕ} → form_of_dec d ≡ DecForm-F.Val binds → IsOneOf bind binds →
         UnboundInExp scope bind.1 place → UnboundInDec scope d place
-    in_function : {d : Dec} {binds : List (List ℕ × List Rule)} {bind : List ℕ × List Rule} {r : Rule} {place : ℕ} → form_of_dec d ≡ DecForm-F.ValRec binds →
+    in_function : {scope : Names} {d : Dec} {binds : List (List ℕ × List Rule)} {bind : List ℕ × List Rule} {r : Rule} {place : ℕ} → form_of_dec d ≡ DecForm-F.ValRec binds →
         IsOneOf bind binds → IsOneOf r bind.1 → UnboundInRule (inside (variables_only (first_parts binds)) scope) r place → UnboundInDec scope d place
-    in_abbreviation : {d : Dec} {binds : List TypeBinding} {bind : TypeBinding} {place : ℕ} → form_of_dec d ≡ DecForm-F.Abbrev binds → IsOneOf bind binds →
+    in_abbreviation : {scope : Names} {d : Dec} {binds : List TypeBinding} {bind : TypeBinding} {place : ℕ} → form_of_dec d ≡ DecForm-F.Abbrev binds → IsOneOf bind binds →
         UnboundInType scope bind.0 bind.2 place → UnboundInDec scope d place
-    in_datatype : {d : Dec} {binds : List DatatypeBinding} {bind : DatatypeBinding} {constructor : List ℕ × Option Ty} {t : Ty} {place : ℕ} →
+    in_datatype : {scope : Names} {d : Dec} {binds : List DatatypeBinding} {bind : DatatypeBinding} {constructor : List ℕ × Option Ty} {t : Ty} {place : ℕ} →
         form_of_dec d ≡ DecForm-F.DataDef binds → IsOneOf bind binds → IsOneOf constructor bind.2 → constructor.1 ≡ Some t →
         UnboundInType (inside (record { values = []; types = datatype_names binds }) scope) bind.0 t place → UnboundInDec scope d place
-    in_exception : {d : Dec} {binds : Constructors} {constructor : List ℕ × Option Ty} {t : Ty} {place : ℕ} → form_of_dec d ≡ DecForm-F.ExnDef binds →
+    in_exception : {scope : Names} {d : Dec} {binds : Constructors} {constructor : List ℕ × Option Ty} {t : Ty} {place : ℕ} → form_of_dec d ≡ DecForm-F.ExnDef binds →
         IsOneOf constructor binds → constructor.1 ≡ Some t → UnboundInType scope [] t place → UnboundInDec scope d place
-    in_hidden : {d : Dec} {hidden shown : List Dec} {place : ℕ} → form_of_dec d ≡ DecForm-F.Local hidden shown → UnboundInDecs scope hidden place → UnboundInDec scope d place
-    in_shown : {d : Dec} {hidden shown : List Dec} {more : Names} {place : ℕ} → form_of_dec d ≡ DecForm-F.Local hidden shown → AddsAll scope hidden more →
+    in_hidden : {scope : Names} {d : Dec} {hidden shown : List Dec} {place : ℕ} → form_of_dec d ≡ DecForm-F.Local hidden shown → UnboundInDecs scope hidden place → UnboundInDec scope d place
+    in_shown : {scope : Names} {d : Dec} {hidden shown : List Dec} {more : Names} {place : ℕ} → form_of_dec d ≡ DecForm-F.Local hidden shown → AddsAll scope hidden more →
         UnboundInDecs (inside more scope) shown place → UnboundInDec scope d place
 
-  pub data UnboundInDecs (scope : Names) : List Dec → ℕ → Type 0 where
-    in_first : {d : Dec} {ds : List Dec} {place : ℕ} → UnboundInDec scope d place → UnboundInDecs scope (d ∷ ds) place
-    in_rest : {d : Dec} {ds : List Dec} {more : Names} {place : ℕ} → Adds scope d more → UnboundInDecs (inside more scope) ds place → UnboundInDecs scope (d ∷ ds) place
+  pub data UnboundInDecs : Names → List Dec → ℕ → Type 0 where
+    in_first : {scope : Names} {d : Dec} {ds : List Dec} {place : ℕ} → UnboundInDec scope d place → UnboundInDecs scope (d ∷ ds) place
+    in_rest : {scope : Names} {d : Dec} {ds : List Dec} {more : Names} {place : ℕ} → Adds scope d more → UnboundInDecs (inside more scope) ds place → UnboundInDecs scope (d ∷ ds) place
 
 -- the scope of the basis
 abbrev pub basis_names : Names

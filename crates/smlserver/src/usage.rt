@@ -7,7 +7,7 @@ use crate::streams::WRITE_FAULT;
 use outside_world::{Sink, WriteRefusal, write_all};
 
 /// What `--version` prints: the program's version, and the toolchain that it was proved with.
-pub const VERSION: &str = "smlserver 0.1.0 (rattle-kit-13b logic dac8208d650f15bf)\n";
+pub const VERSION: &str = "smlserver 0.1.0 (rattle-kit-13f logic dac8208d650f15bf)\n";
 
 /// What `--help` prints.
 pub const USAGE: &str = "smlserver: web pages by scripts in Standard ML

@@ -1,5 +1,5 @@
 -- The parts of a script are few, plain and small.
-use Rattle.std.proofs.Common.{◌≡◌, ℕ, ◌≤◌, List, [], ◌∷◌, ◌++◌, length, subst, sym, ap, arith, length-append}
+use Rattle.std.proofs.Common.{◌≡◌, ℕ, ◌≤◌, ◌^◌, List, [], ◌∷◌, ◌++◌, length, subst, sym, ap, arith, length-append}
 use Rattle.std.specs.Prelude.{codes}
 use Rattle.std.proofs.lemmas.Int.Digits.{digits_value-lt}
 use Rattle.smlserver_top.specs.declared.part.Part.{Part}
@@ -33,25 +33,25 @@ small_literal (a ∷ b ∷ c ∷ []) n d = let l = digits_value-lt 10 (a ∷ b �
 small_literal (a ∷ b ∷ c ∷ f ∷ []) n d = let l = digits_value-lt 10 (a ∷ b ∷ c ∷ f ∷ []) d.numeral.1 in let e = d.value in omega (arith, l, e)
 small_literal (a ∷ b ∷ c ∷ f ∷ g ∷ more) n d = absurd (let h = d.few in omega arith)
 
-small_part : (part : Part) (tokens : List (List ℕ)) → PartTokens part tokens → AreShort 4096 tokens → IsSmall part
+small_part : (part : Part) (tokens : List (List ℕ)) → PartTokens part tokens → AreShort (2 ^ 20) tokens → IsSmall part
 small_part (Plain text) tokens p s =
-    let short = subst (AreShort 4096) p.1 s in
+    let short = subst (AreShort (2 ^ 20)) p.1 s in
     let a = length-append text (34 ∷ []) in
     let l = short.0 in
     omega (arith, a, l)
 small_part (Product m n) tokens p s = (small_literal p.0 m p.2, small_literal p.1 n p.3)
 
-joined_small : (parts : List Part) (tokens : List (List ℕ)) → JoinedTokens parts tokens → AreShort 4096 tokens → AreSmall parts
+joined_small : (parts : List Part) (tokens : List (List ℕ)) → JoinedTokens parts tokens → AreShort (2 ^ 20) tokens → AreSmall parts
 joined_small [] tokens j s = tt
 joined_small (part ∷ []) tokens j s = (small_part part tokens j s, tt)
 joined_small (part ∷ next ∷ parts) tokens j s =
-    let cut = short_split 4096 j.0 (codes "^" ∷ j.1) (subst (AreShort 4096) j.4 s) in
+    let cut = short_split (2 ^ 20) j.0 (codes "^" ∷ j.1) (subst (AreShort (2 ^ 20)) j.4 s) in
     (small_part part j.0 j.2 cut.0, joined_small (next ∷ parts) j.1 j.3 cut.1.1)
 
-arg_small : (parts : List Part) (tokens : List (List ℕ)) → ArgTokens 16 parts tokens → AreShort 4096 tokens → AreSmall parts
+arg_small : (parts : List Part) (tokens : List (List ℕ)) → ArgTokens 16 parts tokens → AreShort (2 ^ 20) tokens → AreSmall parts
 arg_small parts tokens (Alone t e p) s = subst AreSmall (sym e) (small_part (Plain t) tokens p s, tt)
 arg_small parts tokens (Between inner l j e) s =
-    let cut = short_split 4096 inner (codes ")" ∷ []) (subst (AreShort 4096) e s).1 in
+    let cut = short_split (2 ^ 20) inner (codes ")" ∷ []) (subst (AreShort (2 ^ 20)) e s).1 in
     joined_small parts inner j cut.0
 
 joined_plain : (parts : List Part) (tokens : List (List ℕ)) → JoinedTokens parts tokens → ArePlain parts
@@ -75,7 +75,7 @@ plain_parts script parts s = arg_plain parts s.arg s.arg_form
 pub few_parts : (script : List ℕ) (parts : List Part) → IsScript script parts → AreFew parts
 few_parts script parts s = arg_few parts s.arg s.arg_form
 
-pub small_parts : (script : List ℕ) (parts : List Part) → IsScript script parts → length script ≤ 4096 → AreSmall parts
+pub small_parts : (script : List ℕ) (parts : List Part) → IsScript script parts → length script ≤ 2 ^ 20 → AreSmall parts
 small_parts script parts s l =
     let head = (codes "val" ++ s.gap ∷ []) ∷ codes "_" ∷ codes "=" ∷ codes "Web.write" ∷ [] in
-    arg_small parts s.arg s.arg_form (short_split 4096 head s.arg (short_in 4096 (head ++ s.arg) script s.tokens l)).1
+    arg_small parts s.arg s.arg_form (short_split (2 ^ 20) head s.arg (short_in (2 ^ 20) (head ++ s.arg) script s.tokens l)).1

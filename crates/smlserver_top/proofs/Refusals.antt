@@ -1,16 +1,25 @@
 -- Files that tell what they hold lead to one refusal at most.
-use Rattle.std.proofs.Common.{◌≡◌, ◌⊎◌, ℕ, List, length, Option, Some, None, ap, sym, ◌∙◌, inl, inr, subst, arith}
+use Rattle.std.proofs.Common.{◌≡◌, ◌⊎◌, ℕ, List, length, Option, Some, None, refl, ap, sym, ◌∙◌, inl, inr, subst, arith}
 use Rattle.outside_world.specs.Told.{Rose, Contents, LacksFile}
-use Rattle.smlserver_top.specs.declared.page.Reason.{Reason}
-use Rattle.smlserver_top.specs.declared.page.Reason.TheVariants.{FileFault, NotBuilt}
+use Rattle.sml_lex.proofs.Unique.{one-refusal, not-both}
+use Rattle.smlserver_top.specs.declared.refusal.Mistake.{Mistake}
+use Rattle.smlserver_top.specs.declared.refusal.Reason.{Reason}
+use Rattle.smlserver_top.specs.declared.refusal.Reason.TheVariants.{FileFault, NotBuilt, Mistaken}
 use Rattle.smlserver_top.specs.Project.{IsProject}
 use Rattle.smlserver_top.specs.Words.{IsPageCommand, AreBadWords}
-use Rattle.smlserver_top.specs.Page.{HoldsText, HoldsOther, HasScript, HasParts, LeadsTo, IsPage, IsAskedFor, IsBadProject, IsNotBuilt, IsRefused, IsStatus, AreTold, bad_words_line, refusal_line, not_built_line}
+use Rattle.smlserver_top.specs.Reasons.{lexical, IsMistaken, refusal_line}
+use Rattle.smlserver_top.specs.Page.{project_most, script_most, HoldsText, HoldsUnfit, HasNoScript, LeadsTo, HasBody, HasNoParts, IsPage, IsAskedFor, IsBadProject, IsNotBuilt, IsMistakenScript, IsRefused, IsStatus, AreTold, bad_words_line}
 use Rattle.smlserver_top.proofs.Lines.{project_is_found}
 
 -- files that tell
 abbrev Texts : Type 0
 Texts = List ℕ → Option (List ℕ)
+
+-- the words lead to a file that is refused for what it holds
+abbrev pub IsUnfit : Contents → List (List ℕ) → List ℕ → Reason → Type 0
+IsUnfit contents words file FileFault = ⊥
+IsUnfit contents words file NotBuilt = IsNotBuilt contents words file
+IsUnfit contents words file (Mistaken place mistake) = IsMistakenScript contents words file (place, mistake)
 
 same_words : (words : List (List ℕ)) (project path other also : List ℕ) → IsPageCommand words project path → IsPageCommand words other also → (project ≡ other) × (path ≡ also)
 same_words words project path other also a b = let e = sym a.words_are ∙ b.words_are in (cc, cc)
@@ -18,15 +27,15 @@ same_words words project path other also a b = let e = sym a.words_are ∙ b.wor
 same_text : (at : Texts) (name text other : List ℕ) → at name ≡ Some text → at name ≡ Some other → text ≡ other
 same_text at name text other a b = let e = sym a ∙ b in cc
 
--- a text of the form leaves no other
-no_other : (at : Texts) (name text : List ℕ) (form : List ℕ → Type 0) → HoldsText (Some at) name text → form text → HoldsOther (Some at) name form → ⊥
-no_other at name text form h f (inl long) = let e = same_text at name text long.0 h.held long.1 in let l = ap length e in let s = h.short in let m = long.2 in absurd (omega arith)
-no_other at name text form h f (inr other) = other.2 (subst form (same_text at name text other.0 h.held other.1.held) f)
+-- a text that isn't unfit leaves no other
+no_other : (at : Texts) (most : ℕ) (name text : List ℕ) (unfit : List ℕ → Type 0) → HoldsText (Some at) most name text → (unfit text → ⊥) → HoldsUnfit (Some at) most name unfit → ⊥
+no_other at most name text unfit h f (inl long) = let e = same_text at name text long.0 h.held long.1 in let l = ap length e in let s = h.short in let m = long.2 in absurd (omega arith)
+no_other at most name text unfit h f (inr other) = f (subst unfit (sym (same_text at name text other.0 h.held other.1.held)) other.2)
 
--- what the files hold of another form, they hold
-not_lacking : (at : Texts) (name : List ℕ) (form : List ℕ → Type 0) → HoldsOther (Some at) name form → LacksFile (Some at) name → ⊥
-not_lacking at name form (inl long) lacks = let e = sym lacks ∙ long.1 in absurd (cc)
-not_lacking at name form (inr other) lacks = let e = sym lacks ∙ other.1.held in absurd (cc)
+-- what the files hold that is unfit, they hold
+not_lacking : (at : Texts) (most : ℕ) (name : List ℕ) (unfit : List ℕ → Type 0) → HoldsUnfit (Some at) most name unfit → LacksFile (Some at) name → ⊥
+not_lacking at most name unfit (inl long) lacks = let e = sym lacks ∙ long.1 in absurd (cc)
+not_lacking at most name unfit (inr other) lacks = let e = sym lacks ∙ other.1.held in absurd (cc)
 
 same_project : (at : Texts) (words : List (List ℕ)) (file other : List ℕ) → (a : LeadsTo (Some at) words file) → (b : LeadsTo (Some at) words other) → file ≡ other
 same_project at words file other a b =
@@ -40,41 +49,93 @@ same_project at words file other a b =
 leads_nowhere : (at : Texts) (words : List (List ℕ)) (project file : List ℕ) → IsBadProject (Some at) words project → LeadsTo (Some at) words file → ⊥
 leads_nowhere at words project file bad leads =
     let w = same_words words leads.project leads.path project bad.0 leads.words_form bad.1 in
-    no_other at project leads.text (HasScript bad.0) (subst (λ p. HoldsText (Some at) p leads.text) w.0 leads.project_held) (file, subst (λ p. IsProject leads.text p file) w.1 leads.project_form) bad.2
+    no_other at project_most project leads.text (HasNoScript bad.0) (subst (λ p. HoldsText (Some at) project_most p leads.text) w.0 leads.project_held) (λ none. none file (subst (λ p. IsProject leads.text p file) w.1 leads.project_form)) bad.2
 
-no_page : (at : Texts) (words : List (List ℕ)) (file body : List ℕ) → IsNotBuilt (Some at) words file → IsPage (Some at) words body → ⊥
-no_page at words file body (inl bad) page = leads_nowhere at words file page.file bad page.leads
-no_page at words file body (inr bad) page =
+-- a script with a body has parts, and no mistake
+not_both : (script body : List ℕ) → HasBody script body → HasNoParts script → ⊥
+not_both script body has none = none.none has.form.0 has.form.1
+
+no_mistake : (script body : List ℕ) (found : ℕ × Mistake) → HasBody script body → IsMistaken script found → ⊥
+no_mistake script body found has mistaken = not-both has.lexed mistaken.1
+
+one_mistake : (script : List ℕ) (found other : ℕ × Mistake) → IsMistaken script found → IsMistaken script other → found ≡ other
+one_mistake script found other a b = a.2 ∙ ap lexical (one-refusal a.1 b.1) ∙ sym b.2
+
+-- the script of a file
+same_script : (at : Texts) (words : List (List ℕ)) (file other script text : List ℕ) → LeadsTo (Some at) words file → LeadsTo (Some at) words other → HoldsText (Some at) script_most file script → HoldsText (Some at) script_most other text → script ≡ text
+same_script at words file other script text a b h k =
+    let e = same_project at words file other a b in
+    same_text at file script text h.held (subst (λ f. at f ≡ Some text) (sym e) k.held)
+
+no_page : (at : Texts) (words : List (List ℕ)) (file body : List ℕ) (reason : Reason) → IsUnfit (Some at) words file reason → IsPage (Some at) words body → ⊥
+no_page at words file body FileFault bad page = bad
+no_page at words file body NotBuilt (inl bad) page = leads_nowhere at words file page.file bad page.leads
+no_page at words file body NotBuilt (inr bad) page =
     let e = same_project at words page.file file page.leads bad.0 in
-    no_other at file page.script HasParts (subst (λ f. HoldsText (Some at) f page.script) e page.script_held) (page.script_form.0, page.script_form.1) bad.1
+    no_other at script_most file page.script HasNoParts (subst (λ f. HoldsText (Some at) script_most f page.script) e page.script_held) (not_both page.script body page.has_body) bad.1
+no_page at words file body (Mistaken place mistake) bad page =
+    let e = same_script at words page.file file page.script bad.script page.leads bad.leads page.script_held bad.script_held in
+    no_mistake page.script body (place, mistake) page.has_body (subst (λ t. IsMistaken t (place, mistake)) (sym e) bad.mistaken)
 
-asks : (contents : Contents) (words : List (List ℕ)) (file : List ℕ) → IsNotBuilt contents words file → AreBadWords words → ⊥
-asks contents words file (inl bad) none = none file bad.0 bad.1
-asks contents words file (inr bad) none = none bad.0.project bad.0.path bad.0.words_form
+asks : (contents : Contents) (words : List (List ℕ)) (file : List ℕ) (reason : Reason) → IsUnfit contents words file reason → AreBadWords words → ⊥
+asks contents words file FileFault bad none = bad
+asks contents words file NotBuilt (inl bad) none = none file bad.0 bad.1
+asks contents words file NotBuilt (inr bad) none = none bad.0.project bad.0.path bad.0.words_form
+asks contents words file (Mistaken place mistake) bad none = none bad.leads.project bad.leads.path bad.leads.words_form
+
+-- a file that leads to a script, and the script's own, are there
+led_held : (at : Texts) (words : List (List ℕ)) (file asked : List ℕ) → LeadsTo (Some at) words file → (LacksFile (Some at) file → ⊥) → IsAskedFor (Some at) words asked → LacksFile (Some at) asked → ⊥
+led_held at words file asked leads there (inl a) lacks =
+    let w = same_words words asked a.0 leads.project leads.path a.1 leads.words_form in
+    let e = sym (subst (LacksFile (Some at)) w.0 lacks) ∙ leads.project_held.held in absurd (cc)
+led_held at words file asked leads there (inr also) lacks = there (subst (LacksFile (Some at)) (same_project at words asked file also leads) lacks)
 
 -- no file that was asked for is lacking
-held : (at : Texts) (words : List (List ℕ)) (file asked : List ℕ) → IsNotBuilt (Some at) words file → IsAskedFor (Some at) words asked → LacksFile (Some at) asked → ⊥
-held at words file asked (inl bad) (inl a) lacks =
+held : (at : Texts) (words : List (List ℕ)) (file asked : List ℕ) (reason : Reason) → IsUnfit (Some at) words file reason → IsAskedFor (Some at) words asked → LacksFile (Some at) asked → ⊥
+held at words file asked FileFault bad a lacks = bad
+held at words file asked NotBuilt (inl bad) (inl a) lacks =
     let w = same_words words asked a.0 file bad.0 a.1 bad.1 in
-    not_lacking at file (HasScript bad.0) bad.2 (subst (LacksFile (Some at)) w.0 lacks)
-held at words file asked (inl bad) (inr leads) lacks = leads_nowhere at words file asked bad leads
-held at words file asked (inr bad) (inl a) lacks =
-    let w = same_words words asked a.0 bad.0.project bad.0.path a.1 bad.0.words_form in
-    let e = sym (subst (LacksFile (Some at)) w.0 lacks) ∙ bad.0.project_held.held in absurd (cc)
-held at words file asked (inr bad) (inr leads) lacks =
-    not_lacking at file HasParts bad.1 (subst (LacksFile (Some at)) (same_project at words asked file leads bad.0) lacks)
+    not_lacking at project_most file (HasNoScript bad.0) bad.2 (subst (LacksFile (Some at)) w.0 lacks)
+held at words file asked NotBuilt (inl bad) (inr leads) lacks = leads_nowhere at words file asked bad leads
+held at words file asked NotBuilt (inr bad) a lacks = led_held at words file asked bad.0 (not_lacking at script_most file HasNoParts bad.1) a lacks
+held at words file asked (Mistaken place mistake) bad a lacks =
+    led_held at words file asked bad.leads (λ none. let e = sym none ∙ bad.script_held.held in absurd (cc)) a lacks
 
-same_bad : (at : Texts) (words : List (List ℕ)) (file other : List ℕ) → IsNotBuilt (Some at) words file → IsNotBuilt (Some at) words other → file ≡ other
-same_bad at words file other (inl a) (inl b) = (same_words words file a.0 other b.0 a.1 b.1).0
-same_bad at words file other (inl a) (inr b) = absurd (leads_nowhere at words file other a b.0)
-same_bad at words file other (inr a) (inl b) = absurd (leads_nowhere at words other file b a.0)
-same_bad at words file other (inr a) (inr b) = same_project at words file other a.0 b.0
+-- a script with a mistake has one, and is in no form
+mistaken_form : (at : Texts) (words : List (List ℕ)) (file other : List ℕ) (found : ℕ × Mistake) → IsMistakenScript (Some at) words file found → IsNotBuilt (Some at) words other → ⊥
+mistaken_form at words file other found a (inl b) = leads_nowhere at words other file b a.leads
+mistaken_form at words file other found a (inr b) =
+    let e = same_project at words file other a.leads b.0 in
+    no_other at script_most other a.script HasNoParts (subst (λ f. HoldsText (Some at) script_most f a.script) e a.script_held) (λ none. not-both none.lexed a.mistaken.1) b.1
+
+-- one file is refused for what it holds, and for one reason
+record Same (file other : List ℕ) (reason also : Reason) : Type 0 where
+  files : file ≡ other
+  reasons : reason ≡ also
+
+same_unfit : (at : Texts) (words : List (List ℕ)) (file other : List ℕ) (reason also : Reason) → IsUnfit (Some at) words file reason → IsUnfit (Some at) words other also → Same file other reason also
+same_unfit at words file other FileFault also a b = absurd a
+same_unfit at words file other NotBuilt FileFault a b = absurd b
+same_unfit at words file other (Mistaken place mistake) FileFault a b = absurd b
+same_unfit at words file other NotBuilt NotBuilt (inl a) (inl b) = record { files = (same_words words file a.0 other b.0 a.1 b.1).0; reasons = refl }
+same_unfit at words file other NotBuilt NotBuilt (inl a) (inr b) = absurd (leads_nowhere at words file other a b.0)
+same_unfit at words file other NotBuilt NotBuilt (inr a) (inl b) = absurd (leads_nowhere at words other file b a.0)
+same_unfit at words file other NotBuilt NotBuilt (inr a) (inr b) = record { files = same_project at words file other a.0 b.0; reasons = refl }
+same_unfit at words file other NotBuilt (Mistaken place mistake) a b = absurd (mistaken_form at words other file (place, mistake) b a)
+same_unfit at words file other (Mistaken place mistake) NotBuilt a b = absurd (mistaken_form at words file other (place, mistake) a b)
+same_unfit at words file other (Mistaken place mistake) (Mistaken n also) a b =
+    let e = same_script at words file other a.script b.script a.leads b.leads a.script_held b.script_held in
+    record {
+      files = same_project at words file other a.leads b.leads;
+      reasons = ap (λ (found : ℕ × Mistake). Mistaken found.0 found.1) (one_mistake a.script (place, mistake) (n, also) a.mistaken (subst (λ t. IsMistaken t (n, also)) (sym e) b.mistaken));
+    }
 
 -- the words of a refusal ask for a page
 refused_asks : (contents : Contents) (before after : ℕ) (words : List (List ℕ)) (file : List ℕ) (reason : Reason) → IsRefused contents before after words file reason → AreBadWords words → ⊥
 refused_asks contents before after words file FileFault (inl a, missing) none = none file a.0 a.1
 refused_asks contents before after words file FileFault (inr leads, missing) none = none leads.project leads.path leads.words_form
-refused_asks contents before after words file NotBuilt bad none = asks contents words file bad none
+refused_asks contents before after words file NotBuilt bad none = asks contents words file NotBuilt bad none
+refused_asks contents before after words file (Mistaken place mistake) bad none = asks contents words file (Mistaken place mistake) bad none
 
 -- bad words end so, or by a failed write or want of memory
 pub bad_words_end : (contents : Contents) (before after status : ℕ) (words : List (List ℕ)) (wrote : List ℕ → Type 0) → IsStatus status
@@ -86,20 +147,27 @@ bad_words_end contents before after status words wrote (inr (inl e)) page refuse
 bad_words_end contents before after status words wrote (inr (inr (inl e))) page refused none = let r = refused e in absurd (refused_asks contents before after words r.0 r.1 r.2 none)
 bad_words_end contents before after status words wrote (inr (inr (inr e))) page refused none = inr e
 
-refusal_is : (at : Texts) (before after : ℕ) (words : List (List ℕ)) (file other : List ℕ) (reason : Reason) (wrote : List ℕ → Type 0) → IsNotBuilt (Some at) words file → IsRefused (Some at) before after words other reason → wrote (refusal_line other reason) → wrote (not_built_line file) ⊎ Rose before after
-refusal_is at before after words file other FileFault wrote bad (asked, inl lacks) w = absurd (held at words file other bad asked lacks)
-refusal_is at before after words file other FileFault wrote bad (asked, inr rose) w = inr rose
-refusal_is at before after words file other NotBuilt wrote bad also w = inl (subst (λ f. wrote (not_built_line f)) (same_bad at words other file also bad) w)
+-- the line of the one refusal
+same_line : (at : Texts) (words : List (List ℕ)) (file other : List ℕ) (reason also : Reason) (wrote : List ℕ → Type 0) → IsUnfit (Some at) words file reason → IsUnfit (Some at) words other also → wrote (refusal_line other also) → wrote (refusal_line file reason)
+same_line at words file other reason also wrote a b w =
+    let s = same_unfit at words file other reason also a b in
+    subst (λ r. wrote (refusal_line file r)) (sym s.reasons) (subst (λ f. wrote (refusal_line f also)) (sym s.files) w)
 
--- a file that isn't of its form is refused as such, or a read failed, or the end is a failed write or want of memory
-pub not_built_ends : (contents : Contents) (before after status : ℕ) (words : List (List ℕ)) (wrote : List ℕ → Type 0) (file : List ℕ) → IsStatus status
+refusal_is : (at : Texts) (before after : ℕ) (words : List (List ℕ)) (file other : List ℕ) (reason also : Reason) (wrote : List ℕ → Type 0) → IsUnfit (Some at) words file reason → IsRefused (Some at) before after words other also → wrote (refusal_line other also) → wrote (refusal_line file reason) ⊎ Rose before after
+refusal_is at before after words file other reason FileFault wrote bad (asked, inl lacks) w = absurd (held at words file other reason bad asked lacks)
+refusal_is at before after words file other reason FileFault wrote bad (asked, inr rose) w = inr rose
+refusal_is at before after words file other reason NotBuilt wrote bad also w = inl (same_line at words file other reason NotBuilt wrote bad also w)
+refusal_is at before after words file other reason (Mistaken place mistake) wrote bad also w = inl (same_line at words file other reason (Mistaken place mistake) wrote bad also w)
+
+-- an unfit file is refused as such, or a read failed, or the end is a failed write or want of memory
+pub unfit_ends : (contents : Contents) (before after status : ℕ) (words : List (List ℕ)) (wrote : List ℕ → Type 0) (file : List ℕ) (reason : Reason) → IsStatus status
     → (status ≡ 0 → (body : List ℕ) × IsPage contents words body × wrote body)
     → (status ≡ 2 → AreBadWords words × wrote bad_words_line)
-    → (status ≡ 3 → (other : List ℕ) × (reason : Reason) × IsRefused contents before after words other reason × wrote (refusal_line other reason))
-    → AreTold contents → IsNotBuilt contents words file
-    → ((status ≡ 3) × (wrote (not_built_line file) ⊎ Rose before after)) ⊎ ((status ≡ 4) ⊎ (status ≡ 7))
-not_built_ends None before after status words wrote file s page none refused told bad = absurd told
-not_built_ends (Some at) before after status words wrote file (inl e) page none refused told bad = let p = page e in absurd (no_page at words file p.0 bad p.1)
-not_built_ends (Some at) before after status words wrote file (inr (inl e)) page none refused told bad = absurd (asks (Some at) words file bad (none e).0)
-not_built_ends (Some at) before after status words wrote file (inr (inr (inl e))) page none refused told bad = let r = refused e in inl (e, refusal_is at before after words file r.0 r.1 wrote bad r.2 r.3)
-not_built_ends (Some at) before after status words wrote file (inr (inr (inr e))) page none refused told bad = inr e
+    → (status ≡ 3 → (other : List ℕ) × (also : Reason) × IsRefused contents before after words other also × wrote (refusal_line other also))
+    → AreTold contents → IsUnfit contents words file reason
+    → ((status ≡ 3) × (wrote (refusal_line file reason) ⊎ Rose before after)) ⊎ ((status ≡ 4) ⊎ (status ≡ 7))
+unfit_ends None before after status words wrote file reason s page none refused told bad = absurd told
+unfit_ends (Some at) before after status words wrote file reason (inl e) page none refused told bad = let p = page e in absurd (no_page at words file p.0 reason bad p.1)
+unfit_ends (Some at) before after status words wrote file reason (inr (inl e)) page none refused told bad = absurd (asks (Some at) words file reason bad (none e).0)
+unfit_ends (Some at) before after status words wrote file reason (inr (inr (inl e))) page none refused told bad = let r = refused e in inl (e, refusal_is at before after words file r.0 reason r.1 wrote bad r.2 r.3)
+unfit_ends (Some at) before after status words wrote file reason (inr (inr (inr e))) page none refused told bad = inr e

@@ -151,7 +151,7 @@ record IsReady (texts : List (List ℕ)) (n : ℕ) (part : Part) : Type 0 where
   bytes : IsBytes (text_of_part part)
   small : IsSmall part
 
-part_length : (part : Part) → IsSmall part → length (text_of_part part) ≤ 4096
+part_length : (part : Part) → IsSmall part → length (text_of_part part) ≤ 2 ^ 20
 part_length (Plain text) s = s
 part_length (Product m n) s =
     let p = product_small m n s.0 s.1 in
@@ -164,7 +164,7 @@ record Lands (code : Code) (form : List (List ℕ × List ℕ)) (databases : Lis
   stands : Stands code.instrs next more
   goes : (out : List ℕ) → Halts code (length more) (one_region form databases next ((2 ^ 32 + length region) ∷ stack) (region ++ text_words (text_of_part part)) body paid) out → Halts code (length (part_code n part ++ more)) (one_region form databases a stack region body charge) out
 
-part_lands : (code : Code) (form : List (List ℕ × List ℕ)) (databases : List (List ℕ)) (part : Part) (n a : ℕ) (more : List Instr) (stack region body : List ℕ) (charge : ℕ) → IsReady code.texts n part → length region + 4098 < 2 ^ 32 → Stands code.instrs a (part_code n part ++ more) → Lands code form databases part n a more stack region body charge
+part_lands : (code : Code) (form : List (List ℕ × List ℕ)) (databases : List (List ℕ)) (part : Part) (n a : ℕ) (more : List Instr) (stack region body : List ℕ) (charge : ℕ) → IsReady code.texts n part → length region + (2 ^ 20 + 2) < 2 ^ 32 → Stands code.instrs a (part_code n part ++ more) → Lands code form databases part n a more stack region body charge
 part_lands code form databases (Plain text) n a more stack region body charge r l st =
     record {
       next = a + 1 + 1;
@@ -202,7 +202,7 @@ made_text region text b l = text_behind-made 1 region text (global region) b ref
 kept_text : (p : ℕ) (region more text : List ℕ) → text_behind p (global region) ≡ Some text → text_behind p (global (region ++ more)) ≡ Some text
 kept_text p region more text h = text_behind-with_more p 1 more text (global region) h
 
-rest_halts : (code : Code) (form : List (List ℕ × List ℕ)) (databases : List (List ℕ)) (parts : List Part) (n a p : ℕ) (region text body : List ℕ) (charge : ℕ) → AreReady code.texts n parts → Stands code.instrs a (rest_code n parts) → text_behind p (global region) ≡ Some text → IsBytes text → length text + 4096 * length parts ≤ 65536 → length region + 80000 * length parts ≤ 2000000 → Halts code (length (rest_code n parts)) (one_region form databases a (p ∷ []) region body charge) (body ++ (text ++ text_of parts))
+rest_halts : (code : Code) (form : List (List ℕ × List ℕ)) (databases : List (List ℕ)) (parts : List Part) (n a p : ℕ) (region text body : List ℕ) (charge : ℕ) → AreReady code.texts n parts → Stands code.instrs a (rest_code n parts) → text_behind p (global region) ≡ Some text → IsBytes text → length text + 2 ^ 20 * length parts ≤ 2 ^ 24 → length region + 2 ^ 25 * length parts ≤ 2 ^ 30 → Halts code (length (rest_code n parts)) (one_region form databases a (p ∷ []) region body charge) (body ++ (text ++ text_of parts))
 rest_halts code form databases [] n a p region text body charge r st held b lt lr =
     write_step code form databases p (suc zero) a [] region text body (body ++ (text ++ [])) charge st.0 held
     (subst (λ t. Halts code (suc zero) (one_region form databases (a + 1) [] region (body ++ text) (charge + 1)) (body ++ t)) (sym (append-nil text))

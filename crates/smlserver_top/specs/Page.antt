@@ -1,38 +1,47 @@
 -- What a page command gives, and when each of its refusals comes.
-use Rattle.std.specs.Prelude.{◌≡◌, ◌⊎◌, ◌≤◌, ℕ, List, [], ◌∷◌, ◌++◌, length, Option, Some, None, codes}
+use Rattle.std.specs.Prelude.{◌≡◌, ◌⊎◌, ◌≤◌, ℕ, List, [], ◌∷◌, ◌++◌, length, Option, Some, None, ◌^◌, codes}
 use Rattle.outside_world.specs.Told.{Rose, Contents, HoldsFile, LacksFile, HoldsLongFile, GrewByFront}
 use Rattle.smlserver_top.specs.declared.page.Stop.{Stop}
 use Rattle.smlserver_top.specs.declared.page.Stop.TheVariants.{BadWords, Refused, NoMemory}
-use Rattle.smlserver_top.specs.declared.page.Reason.{Reason}
-use Rattle.smlserver_top.specs.declared.page.Reason.TheVariants.{FileFault, NotBuilt}
+use Rattle.smlserver_top.specs.declared.refusal.ScriptRefusal.{ScriptRefusal}
+use Rattle.smlserver_top.specs.declared.refusal.ScriptRefusal.TheVariants as script
+use Rattle.smlserver_top.specs.declared.refusal.Mistake.{Mistake}
+use Rattle.smlserver_top.specs.declared.refusal.Reason.{Reason}
+use Rattle.smlserver_top.specs.declared.refusal.Reason.TheVariants.{FileFault, NotBuilt, Mistaken}
 use Rattle.smlserver_top.specs.declared.part.Part.{Part}
 use Rattle.sml_syntax.specs.declared.tree.Dec.{Dec}
+use Rattle.sml_syntax.specs.declared.token.Token.{Token}
 use Rattle.sml_syntax.specs.Page.{PageOf, Finished, html_type}
+use Rattle.sml_syntax.specs.Tokens.{HasTokens}
 use Rattle.smlserver_top.specs.Script.{IsScript}
 use Rattle.smlserver_top.specs.Tree.{IsScriptOf}
 use Rattle.smlserver_top.specs.Project.{IsProject}
 use Rattle.smlserver_top.specs.Words.{IsPageCommand, AreBadWords}
+use Rattle.smlserver_top.specs.Reasons.{IsMistaken, refusal_line}
 
--- the files hold this text under this name, where they tell it, and it has at most 4,096 bytes
-pub record HoldsText (contents : Contents) (name text : List ℕ) : Type 0 where
+-- the greatest lengths of a project file and of a script
+abbrev pub project_most : ℕ
+project_most = 4096
+
+abbrev pub script_most : ℕ
+script_most = 2 ^ 20
+
+-- the files hold this text under this name, where they tell it, and it has at most so many bytes
+pub record HoldsText (contents : Contents) (most : ℕ) (name text : List ℕ) : Type 0 where
   pub held : HoldsFile contents name text
-  pub short : length text ≤ 4096
+  pub short : length text ≤ most
 
--- what the files hold under the name is longer, or no text of this form
-abbrev pub HoldsOther : Contents → List ℕ → (List ℕ → Type 0) → Type 0
-HoldsOther contents name form = HoldsLongFile contents name 4096 ⊎ ((text : List ℕ) × HoldsText contents name text × (form text → ⊥))
+-- what the files hold under the name is longer, or a text that is unfit
+abbrev pub HoldsUnfit : Contents → ℕ → List ℕ → (List ℕ → Type 0) → Type 0
+HoldsUnfit contents most name unfit = HoldsLongFile contents name most ⊎ ((text : List ℕ) × HoldsText contents most name text × unfit text)
 
 -- the files hold nothing under the name, or their count of faults rose in the call
 abbrev pub IsMissing : Contents → ℕ → ℕ → List ℕ → Type 0
 IsMissing contents before after name = LacksFile contents name ⊎ Rose before after
 
--- a project with a script under the path
-abbrev pub HasScript : List ℕ → List ℕ → Type 0
-HasScript path text = (file : List ℕ) × IsProject text path file
-
--- a script of the form that is run
-abbrev pub HasParts : List ℕ → Type 0
-HasParts text = (parts : List Part) × IsScript text parts
+-- no project with a script under the path
+abbrev pub HasNoScript : List ℕ → List ℕ → Type 0
+HasNoScript path text = (file : List ℕ) → IsProject text path file → ⊥
 
 -- the words ask for this project, and the files hold it with this script's file under the path asked for
 pub record LeadsTo (contents : Contents) (words : List (List ℕ)) (file : List ℕ) : Type 0 where
@@ -40,19 +49,31 @@ pub record LeadsTo (contents : Contents) (words : List (List ℕ)) (file : List 
   pub path : List ℕ
   pub text : List ℕ
   pub words_form : IsPageCommand words project path
-  pub project_held : HoldsText contents project text
+  pub project_held : HoldsText contents project_most project text
   pub project_form : IsProject text path file
 
--- the page that the words ask for has this body: evaluating the declarations of the script under the path,
--- from an empty store and without a form, databases or answers, makes no call and ends with it
+-- the script is of the form that is run: evaluating its declarations from an empty store, without a form,
+-- databases or answers, makes no call and ends with this body
+pub record HasBody (script body : List ℕ) : Type 0 where
+  pub tokens : List Token
+  pub lexed : HasTokens script tokens
+  pub decs : List Dec
+  pub form : IsScriptOf script decs
+  pub evaluated : PageOf decs [] [] [] [] (Finished 200 html_type body)
+
+-- the script has tokens, and is not of the form that is run
+pub record HasNoParts (script : List ℕ) : Type 0 where
+  pub tokens : List Token
+  pub lexed : HasTokens script tokens
+  pub none : (parts : List Part) → IsScript script parts → ⊥
+
+-- the page that the words ask for has this body: that of the script under the path
 pub record IsPage (contents : Contents) (words : List (List ℕ)) (body : List ℕ) : Type 0 where
   pub file : List ℕ
   pub script : List ℕ
   pub leads : LeadsTo contents words file
-  pub script_held : HoldsText contents file script
-  pub decs : List Dec
-  pub script_form : IsScriptOf script decs
-  pub evaluated : PageOf decs [] [] [] [] (Finished 200 html_type body)
+  pub script_held : HoldsText contents script_most file script
+  pub has_body : HasBody script body
 
 -- the words ask for this project file, or it leads to this script's file
 abbrev pub IsAskedFor : Contents → List (List ℕ) → List ℕ → Type 0
@@ -60,20 +81,28 @@ IsAskedFor contents words file = ((path : List ℕ) × IsPageCommand words file 
 
 -- the words ask for this project file, which is no project with a script under their path
 abbrev pub IsBadProject : Contents → List (List ℕ) → List ℕ → Type 0
-IsBadProject contents words file = (path : List ℕ) × IsPageCommand words file path × HoldsOther contents file (HasScript path)
+IsBadProject contents words file = (path : List ℕ) × IsPageCommand words file path × HoldsUnfit contents project_most file (HasNoScript path)
 
 -- the project leads to this file, which is no script of the form that is run
 abbrev pub IsBadScript : Contents → List (List ℕ) → List ℕ → Type 0
-IsBadScript contents words file = LeadsTo contents words file × HoldsOther contents file HasParts
+IsBadScript contents words file = LeadsTo contents words file × HoldsUnfit contents script_most file HasNoParts
 
 -- the words lead to this file, and it isn't of the form that it must have
 abbrev pub IsNotBuilt : Contents → List (List ℕ) → List ℕ → Type 0
 IsNotBuilt contents words file = IsBadProject contents words file ⊎ IsBadScript contents words file
 
+-- the project leads to this file, whose text meets this mistake first
+pub record IsMistakenScript (contents : Contents) (words : List (List ℕ)) (file : List ℕ) (found : ℕ × Mistake) : Type 0 where
+  pub leads : LeadsTo contents words file
+  pub script : List ℕ
+  pub script_held : HoldsText contents script_most file script
+  pub mistaken : IsMistaken script found
+
 -- why a file is refused, by its reason
 abbrev pub IsRefused : Contents → ℕ → ℕ → List (List ℕ) → List ℕ → Reason → Type 0
 IsRefused contents before after words file FileFault = IsAskedFor contents words file × IsMissing contents before after file
 IsRefused contents before after words file NotBuilt = IsNotBuilt contents words file
+IsRefused contents before after words file (Mistaken place mistake) = IsMistakenScript contents words file (place, mistake)
 
 -- why there is no page
 abbrev pub HasCause : Contents → ℕ → ℕ → List (List ℕ) → Stop → Type 0
@@ -82,27 +111,28 @@ HasCause contents before after words (Refused file reason) = IsRefused contents 
 HasCause contents before after words NoMemory = Unit {0}
 
 -- why the text of a file wasn't read
-abbrev pub HasReadCause : Contents → ℕ → ℕ → List ℕ → Stop → Type 0
-HasReadCause contents before after name BadWords = ⊥
-HasReadCause contents before after name (Refused file FileFault) = (file ≡ name) × IsMissing contents before after name
-HasReadCause contents before after name (Refused file NotBuilt) = (file ≡ name) × HoldsLongFile contents name 4096
-HasReadCause contents before after name NoMemory = Unit {0}
+abbrev pub HasReadCause : Contents → ℕ → ℕ → ℕ → List ℕ → Stop → Type 0
+HasReadCause contents before after most name (Refused file FileFault) = (file ≡ name) × IsMissing contents before after name
+HasReadCause contents before after most name (Refused file NotBuilt) = (file ≡ name) × HoldsLongFile contents name most
+HasReadCause contents before after most name NoMemory = Unit {0}
+HasReadCause contents before after most name _ = ⊥
+
+-- why a script has no body
+abbrev pub HasScriptCause : List ℕ → ScriptRefusal → Type 0
+HasScriptCause text (script.Refused NotBuilt) = HasNoParts text
+HasScriptCause text (script.Refused (Mistaken place mistake)) = IsMistaken text (place, mistake)
+HasScriptCause text (script.Refused FileFault) = ⊥
+HasScriptCause text script.NoMemory = Unit {0}
 
 -- the line of words that ask for no page
 abbrev pub bad_words_line : List ℕ
 bad_words_line = codes "bad words" ++ 10 ∷ []
 
--- the name of a reason
-abbrev pub reason_name : Reason → List ℕ
-reason_name FileFault = codes "FileFault"
-reason_name NotBuilt = codes "NotBuilt"
-
--- the line of a refusal: `refused FILE 0 REASON`
-abbrev pub refusal_line : List ℕ → Reason → List ℕ
-refusal_line file reason = codes "refused " ++ (file ++ (codes " 0 " ++ (reason_name reason ++ 10 ∷ [])))
-
 abbrev pub not_built_line : List ℕ → List ℕ
 not_built_line file = refusal_line file NotBuilt
+
+abbrev pub mistaken_line : List ℕ → ℕ × Mistake → List ℕ
+mistaken_line file found = refusal_line file (Mistaken found.0 found.1)
 
 -- the exit statuses
 abbrev pub IsStatus : ℕ → Type 0

@@ -1,5 +1,5 @@
 -- What the parts of a script stand for, and which parts a script of the first form can have.
-use Rattle.std.specs.Prelude.{◌≡◌, ℕ, ◌*◌, ◌≤◌, Bool, true, ◌==◌, ◌&&◌, nat_le, not, List, [], ◌∷◌, ◌++◌, length}
+use Rattle.std.specs.Prelude.{◌≡◌, ℕ, ◌*◌, ◌≤◌, ◌^◌, Bool, true, ◌==◌, ◌&&◌, nat_le, not, List, [], ◌∷◌, ◌++◌, length}
 use Rattle.std.specs.List.{list_all}
 use Rattle.std.specs.Fmt.{decimal}
 use Rattle.smlserver_top.specs.declared.part.Part.{Part}
@@ -27,7 +27,7 @@ ArePlain (Product m n ∷ parts) = ArePlain parts
 
 -- a text is no longer than the longest script, and a factor has at most four digits
 abbrev pub IsSmall : Part → Type 0
-IsSmall (Plain text) = length text ≤ 4096
+IsSmall (Plain text) = length text ≤ 2 ^ 20
 IsSmall (Product m n) = (m ≤ 9999) × (n ≤ 9999)
 
 -- each part is small

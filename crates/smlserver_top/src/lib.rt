@@ -1,14 +1,17 @@
 //! The commands of the server, from words to a status.
 #![tactic(auto)]
 
+mod body;
 mod compile;
 mod machine;
 mod page;
 mod part;
 mod project;
+mod refusal;
 mod run;
 mod script;
 mod spelling;
+mod syntax;
 mod words;
 
 pub use run::run_words;

@@ -2,20 +2,13 @@
 ghost use Rattle.std.specs.Prelude.{◌≡◌, ◌≤◌, ℕ, map, IfOk, IfErr};
 ghost use Rattle.smlserver_top.specs.Page.{HoldsText, IsPage, HasCause, HasReadCause};
 
-use crate::compile::written;
+use crate::body::script_body;
 use crate::project::script_file;
-use crate::script::{ScriptError, script_parts};
+use crate::refusal::{Reason, ScriptRefusal};
 use crate::words::page_words;
 use outside_world::{FileRefusal, Files};
 use sml_syntax::{NoMemory, Text};
 use std::alloc::Global;
-
-/// Why a file is refused.
-#[derive(Clone, Copy, Debug, PartialEq, Eq)]
-pub(crate) enum Reason {
-    FileFault,
-    NotBuilt,
-}
 
 /// Why there is no page.
 #[derive(Drop)]
@@ -36,19 +29,22 @@ impl From<NoMemory> for Stop {
     }
 }
 
-/// The greatest length of a file that is read.
-const MOST: u64 = 4096;
+/// The greatest length of a project file.
+const PROJECT_MOST: u64 = 4096;
+
+/// The greatest length of a script.
+const SCRIPT_MOST: u64 = 1 << 20;
 
 // The name again, and the text of the file.
-fn read<F: Files>(files: &mut F, name: Text) -> Result<(Text, Text), Stop>
+fn read<F: Files>(files: &mut F, name: Text, most: u64) -> Result<(Text, Text), Stop>
     ensures name { IfOk result (λ read. read.0 ≡ name) }
-    ensures text { IfOk result (λ read. HoldsText (F.contents files.old) read.0 read.1) }
-    ensures stop { IfErr result (HasReadCause (F.contents files.old) (F.file_count files.old) (F.file_count files.new) name) }
+    ensures text { IfOk result (λ read. HoldsText (F.contents files.old) most read.0 read.1) }
+    ensures stop { IfErr result (HasReadCause (F.contents files.old) (F.file_count files.old) (F.file_count files.new) most name) }
     ensures same { F.contents files.new ≡ F.contents files.old }
     ensures count { F.file_count files.old ≤ F.file_count files.new }
     ensures keeps { F.kept files.new ≡ F.kept files.old }
 {
-    match files.read_file(&name, MOST) {
+    match files.read_file(&name, most) {
         Ok(text) => Ok((name, text)),
         Err(FileRefusal::Long) => Err(Stop::Refused(name, Reason::NotBuilt)),
         Err(FileRefusal::Absent) => Err(Stop::Refused(name, Reason::FileFault)),
@@ -73,15 +69,15 @@ pub(crate) fn page_body<F: Files>(
         return Err(Stop::BadWords);
     };
     let project = Text::from_bytes(alloc, project)?;
-    let (project, text) = read(files, project)?;
+    let (project, text) = read(files, project, PROJECT_MOST)?;
     let Some(file) = script_file(text.as_bytes(), path) else {
         return Err(Stop::Refused(project, Reason::NotBuilt));
     };
     let file = Text::from_bytes(alloc, file)?;
-    let (file, script) = read(files, file)?;
-    match script_parts(alloc, script.as_bytes()) {
-        Ok(parts) => Ok(written(alloc, &parts)?),
-        Err(ScriptError::NotForm) => Err(Stop::Refused(file, Reason::NotBuilt)),
-        Err(ScriptError::NoMemory) => Err(Stop::NoMemory),
+    let (file, script) = read(files, file, SCRIPT_MOST)?;
+    match script_body(alloc, script.as_bytes()) {
+        Ok(body) => Ok(body),
+        Err(ScriptRefusal::Refused(reason)) => Err(Stop::Refused(file, reason)),
+        Err(ScriptRefusal::NoMemory) => Err(Stop::NoMemory),
     }
 }

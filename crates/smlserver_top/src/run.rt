@@ -1,12 +1,14 @@
 // The command that writes a page.
 ghost use Rattle.std.specs.Prelude.{◌≡◌, ◌⊎◌, ◌<◌, ◌≤◌, ℕ, List, map, IfOk};
 ghost use Rattle.outside_world.specs.Told.{Rose, grown, GrewByFront};
-ghost use Rattle.smlserver_top.specs.Page.{IsStatus, IsPage, IsNotBuilt, IsRefused, IsAnswer, IsUnfinished, AreTold, bad_words_line, refusal_line, not_built_line};
+ghost use Rattle.smlserver_top.specs.Reasons.{refusal_line};
+ghost use Rattle.smlserver_top.specs.Page.{IsStatus, IsPage, IsNotBuilt, IsMistakenScript, IsRefused, IsAnswer, IsUnfinished, AreTold, bad_words_line, not_built_line, mistaken_line};
 ghost use Rattle.smlserver_top.specs.Words.{AreBadWords};
 
-use crate::page::{Reason, Stop, page_body};
+use crate::page::{Stop, page_body};
+use crate::refusal::refusal_line;
 use outside_world::{Clock, Files, Sink, Source, WriteRefusal, write_all};
-use sml_syntax::{NoMemory, Text};
+use sml_syntax::NoMemory;
 use std::alloc::Global;
 
 // Writes the bytes, and answers the status, unless the write fails.
@@ -24,21 +26,6 @@ fn finish<K: Sink>(output: &mut K, bytes: &[u8], status: u8) -> u8
         Err(WriteRefusal::Failed) => 4,
         Err(WriteRefusal::NoMemory) => 7,
     }
-}
-
-// The line of a refusal.
-fn refusal(alloc: Global, file: &Text, reason: Reason) -> Result<Text, NoMemory>
-    ensures { IfOk result (λ line. line ≡ refusal_line file.now reason) }
-{
-    let mut line = Vec::from_slice(alloc, b"refused ")?;
-    line.extend_from_slice(file.as_bytes())?;
-    line.extend_from_slice(b" 0 ")?;
-    match reason {
-        Reason::FileFault => line.extend_from_slice(b"FileFault")?,
-        Reason::NotBuilt => line.extend_from_slice(b"NotBuilt")?,
-    }
-    line.push(b'\n')?;
-    Ok(Text::from_vec(line))
 }
 
 // Writes the page that the words ask for, and answers the status.
@@ -64,7 +51,7 @@ fn write_page<F: Files, K: Sink>(alloc: Global, words: &[&str], files: &mut F, o
     match page_body(alloc, words, files) {
         Ok(body) => finish(output, body.as_bytes(), 0),
         Err(Stop::BadWords) => finish(output, b"bad words\n", 2),
-        Err(Stop::Refused(file, reason)) => match refusal(alloc, &file, reason) {
+        Err(Stop::Refused(file, reason)) => match refusal_line(alloc, &file, reason) {
             Ok(line) => finish(output, line.as_bytes(), 3),
             Err(NoMemory) => 7,
         },
@@ -97,6 +84,12 @@ pub fn run_words<F: Files, S: Source, K: Sink, C: Clock>(
     ensures not_built { AreTold (F.contents files.old) → (file : List ℕ)
         → IsNotBuilt (F.contents files.old) (map (λ w. w.now) words.now) file
         → ((result ≡ 3) × ((K.written output.new ≡ grown (K.written output.old) (not_built_line file)) ⊎ Rose (F.file_count files.old) (F.file_count files.new)))
+        ⊎ ((result ≡ 4) ⊎ (result ≡ 7)) }
+
+    // So is a script that has no tokens: with the refusal that is met first, and its place.
+    ensures mistaken { AreTold (F.contents files.old) → (file : List ℕ) → (found : _)
+        → IsMistakenScript (F.contents files.old) (map (λ w. w.now) words.now) file found
+        → ((result ≡ 3) × ((K.written output.new ≡ grown (K.written output.old) (mistaken_line file found)) ⊎ Rose (F.file_count files.old) (F.file_count files.new)))
         ⊎ ((result ≡ 4) ⊎ (result ≡ 7)) }
 
     // 4 and 7: a write failed, or memory ran out, and at most a front of the answer is written.

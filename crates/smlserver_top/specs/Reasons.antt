@@ -1,0 +1,67 @@
+-- Why a file is refused: the names of the reasons, and what each says of a script's text.
+use Rattle.std.specs.Prelude.{◌≡◌, ℕ, List, [], ◌∷◌, ◌++◌, codes}
+use Rattle.std.specs.Fmt.{decimal}
+use Rattle.sml_syntax.specs.declared.token.Lack.{Lack}
+use Rattle.sml_syntax.specs.declared.token.Lack.TheVariants as lack
+use Rattle.sml_syntax.specs.Spelling as spell
+use Rattle.sml_syntax.specs.Spelling.{Refusal}
+use Rattle.sml_syntax.specs.Tokens.{IsRefused}
+use Rattle.smlserver_top.specs.declared.refusal.Mistake.{Mistake}
+use Rattle.smlserver_top.specs.declared.refusal.Mistake.TheVariants as mistake
+use Rattle.smlserver_top.specs.declared.refusal.Reason.{Reason}
+use Rattle.smlserver_top.specs.declared.refusal.Reason.TheVariants.{FileFault, NotBuilt, Mistaken}
+
+-- the place and the mistake of a lexical refusal
+abbrev pub lexical : Refusal → ℕ × Mistake
+lexical (spell.BadByte n) = (n, mistake.BadByte)
+lexical (spell.OpenComment n) = (n, mistake.OpenComment)
+lexical (spell.OpenString n) = (n, mistake.OpenString)
+lexical (spell.OpenQuote n) = (n, mistake.OpenQuote)
+lexical (spell.WideNumber n) = (n, mistake.WideNumber)
+lexical (spell.Unsupported n l) = (n, mistake.Unsupported l)
+
+-- the first mistake of a script
+abbrev pub IsMistaken : List ℕ → ℕ × Mistake → Type 0
+IsMistaken script found = (r : Refusal) × IsRefused script r × (found ≡ lexical r)
+
+-- the names
+abbrev pub lack_name : Lack → List ℕ
+lack_name lack.Module = codes "Module"
+lack_name lack.Records = codes "Records"
+lack_name lack.Layered = codes "Layered"
+lack_name lack.Abstype = codes "Abstype"
+lack_name lack.Fixity = codes "Fixity"
+lack_name lack.While = codes "While"
+lack_name lack.Reals = codes "Reals"
+lack_name lack.Words = codes "Words"
+lack_name lack.Hexadecimal = codes "Hexadecimal"
+lack_name lack.Escape = codes "Escape"
+lack_name lack.LocalType = codes "LocalType"
+lack_name lack.Replication = codes "Replication"
+lack_name lack.ConstraintVar = codes "ConstraintVar"
+lack_name lack.NestedType = codes "NestedType"
+lack_name lack.InfixClause = codes "InfixClause"
+
+-- the name of a mistake, with that of the lack behind it
+abbrev pub mistake_name : Mistake → List ℕ
+mistake_name mistake.BadByte = codes "BadByte"
+mistake_name mistake.OpenComment = codes "OpenComment"
+mistake_name mistake.OpenString = codes "OpenString"
+mistake_name mistake.OpenQuote = codes "OpenQuote"
+mistake_name mistake.WideNumber = codes "WideNumber"
+mistake_name (mistake.Unsupported l) = codes "Unsupported " ++ lack_name l
+
+abbrev pub reason_name : Reason → List ℕ
+reason_name FileFault = codes "FileFault"
+reason_name NotBuilt = codes "NotBuilt"
+reason_name (Mistaken place m) = mistake_name m
+
+-- the place that is told: 0 where a file as a whole is refused
+abbrev pub reason_place : Reason → ℕ
+reason_place FileFault = 0
+reason_place NotBuilt = 0
+reason_place (Mistaken place m) = place
+
+-- the line of a refusal: `refused FILE PLACE NAME`
+abbrev pub refusal_line : List ℕ → Reason → List ℕ
+refusal_line file reason = codes "refused " ++ (file ++ (32 ∷ (decimal (reason_place reason) ++ (32 ∷ (reason_name reason ++ 10 ∷ [])))))

@@ -1,0 +1,35 @@
+// The tokens of a script, or its first mistake.
+ghost use Rattle.std.specs.Prelude.{◌≡◌, IfOk, IfErr};
+ghost use Rattle.sml_syntax.specs.Tokens.{HasTokens};
+ghost use Rattle.smlserver_top.specs.Page.{HasScriptCause};
+
+use crate::refusal::{Mistake, Reason, ScriptRefusal};
+use sml_lex::{LexRefusal, lex};
+use sml_syntax::Token;
+use std::alloc::Global;
+
+// The refusal of a mistake at a place.
+fn mistaken(place: u64, mistake: Mistake) -> ScriptRefusal
+    ensures { result ≡ ScriptRefusal.Refused (Reason.Mistaken place mistake) }
+{
+    ScriptRefusal::Refused(Reason::Mistaken(place, mistake))
+}
+
+/// The tokens of a script.
+pub(crate) fn script_tokens(alloc: Global, script: &[u8]) -> Result<Vec<Token>, ScriptRefusal>
+    ensures tokens { IfOk result (λ tokens. HasTokens script.now tokens.items) }
+    ensures refused { IfErr result (HasScriptCause script.now) }
+{
+    match lex(alloc, script) {
+        Ok(tokens) => Ok(tokens),
+        Err(LexRefusal::BadByte(place)) => Err(mistaken(place, Mistake::BadByte)),
+        Err(LexRefusal::OpenComment(place)) => Err(mistaken(place, Mistake::OpenComment)),
+        Err(LexRefusal::OpenString(place)) => Err(mistaken(place, Mistake::OpenString)),
+        Err(LexRefusal::OpenQuote(place)) => Err(mistaken(place, Mistake::OpenQuote)),
+        Err(LexRefusal::WideNumber(place)) => Err(mistaken(place, Mistake::WideNumber)),
+        Err(LexRefusal::Unsupported(place, lack)) => {
+            Err(mistaken(place, Mistake::Unsupported(lack)))
+        }
+        Err(LexRefusal::NoMemory) => Err(ScriptRefusal::NoMemory),
+    }
+}
