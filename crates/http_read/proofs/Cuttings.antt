@@ -1,11 +1,10 @@
 -- However a stream is cut, the reader gives its messages.
-use Rattle.std.proofs.Common.{◌≡◌, ℕ, true, false, List, [], ◌∷◌, ◌++◌, length, drop, Ok, refl, sym, ap, ◌∙◌, subst, append_assoc}
+use Rattle.std.proofs.Common.{◌≡◌, ℕ, List, [], ◌∷◌, ◌++◌, drop, refl, sym, ap, ◌∙◌, subst, append_assoc}
 use Rattle.std.proofs.lemmas.List.{append-nil}
 use Rattle.sml_syntax.specs.declared.request.Request.{Request}
-use Rattle.http_read.specs.declared.reader.Next.TheVariants as next
 use Rattle.http_read.specs.Cuts.{Act, Fed, Gave, Runs, bytes_fed, requests_given, new_reader, CutsDoNotMatter, AnswersEndMessages}
 use Rattle.http_read.specs.Messages.{BeginsWith, last_closes}
-use Rattle.http_read.specs.Reader.{ReaderState, Answers}
+use Rattle.http_read.specs.Reader.{ReaderState}
 use Rattle.http_read.proofs.Begins.{begins_append, begins_next, last_closes_more}
 
 runs_on : (acts : List Act) (bytes : List ℕ) (requests : List Request) (old new : ReaderState)

@@ -1,14 +1,13 @@
 -- What stands at the front of bytes stays there as bytes are added behind.
-use Rattle.std.proofs.Common.{◌≡◌, ℕ, zero, suc, ◌+◌, ◌-◌, ◌≤◌, ◌<◌, ◌⊎◌, inl, inr, Bool, true, false, List, [], ◌∷◌, ◌++◌, length, take, drop, refl, sym, ap, ◌∙◌, subst, arith, length-append, length-drop}
+use Rattle.std.proofs.Common.{◌≡◌, ℕ, zero, suc, ◌+◌, ◌-◌, ◌≤◌, ◌<◌, ◌⊎◌, inl, inr, List, ◌++◌, length, take, drop, refl, sym, ap, ◌∙◌, subst, arith, length-append, length-drop}
 use Rattle.std.proofs.lemmas.Grind.{common_steps}
 use Rattle.std.specs.Prelude.{slice_index}
 use Rattle.std.proofs.Math.ListN.{get_or-append}
-use Rattle.std.proofs.lemmas.List.{take-append-le, drop-append-le, take-append-drop}
+use Rattle.std.proofs.lemmas.List.{take-append-le, drop-append-le}
 use Rattle.std.proofs.lemmas.List.Sums.{sum_by-append, sum_by-take-le}
 use Rattle.httparse.specs.Grammar.{RequestHead}
-use Rattle.sml_syntax.specs.declared.request.Request.{Request}
-use Rattle.http_read.specs.Head.{Takes, judgement, request_of}
-use Rattle.http_read.specs.Messages.{Front, Held, Fault, Message, HasFront, HasHead, IsHead, ReadsHead, IsTooLong, IsMessage, ends_at, lines, most_head, most_lines}
+use Rattle.http_read.specs.Head.{request_of}
+use Rattle.http_read.specs.Messages.{Front, Held, Fault, Message, HasFront, HasHead, IsHead, ReadsHead, IsTooLong, ends_at, lines, most_lines}
 
 pub le_or_gt : (a b : ℕ) → (a ≤ b) ⊎ (b < a)
 le_or_gt zero b = inl (omega arith)

@@ -1,10 +1,10 @@
 -- The length of a body.
-use Rattle.std.proofs.Common.{◌≡◌, ℕ, ◌+◌, ◌-◌, ◌*◌, ◌≤◌, ◌<◌, Bool, true, false, ◌&&◌, not, cond, List, [], ◌∷◌, length, Option, Some, None, refl, sym, ap, ◌∙◌, subst, arith}
+use Rattle.std.proofs.Common.{◌≡◌, ℕ, ◌+◌, ◌-◌, ◌*◌, ◌≤◌, ◌<◌, Bool, true, false, ◌&&◌, List, [], ◌∷◌, Some, None, refl, sym, ap, ◌∙◌, subst, arith}
 use Rattle.std.specs.Prelude.{nat_lt}
 use Rattle.std.proofs.lemmas.Bool.{lt-ltb, le-ltb}
 use Rattle.std.specs.List.{list_all}
 use Rattle.std.specs.Char.{is_ascii_digit}
-use Rattle.http_read.specs.Head.{Refuses, Takes, first_value, is_length, is_number, number_after, most_body, judge_length}
+use Rattle.http_read.specs.Head.{Refuses, Takes, first_value, is_length, number_after, most_body, judge_length}
 
 -- more digits make no smaller number
 pub number_grows : (n : ℕ) (digits : List ℕ) → n ≤ number_after n digits

@@ -6,6 +6,7 @@ pub mod Lengths
 pub mod Lines
 pub mod Lists
 pub mod Lone
+pub mod Nexts
 pub mod Requests
 pub mod Spans
 pub mod Stages

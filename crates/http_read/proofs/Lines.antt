@@ -1,8 +1,7 @@
 -- A head has more LF than fields.
-use Rattle.std.proofs.Common.{◌≡◌, ℕ, ◌+◌, ◌≤◌, ◌<◌, List, [], ◌∷◌, ◌++◌, length, refl, sym, ap, ◌∙◌, subst, arith}
+use Rattle.std.proofs.Common.{◌≡◌, ℕ, ◌+◌, ◌≤◌, List, [], ◌∷◌, ◌++◌, length, ap, arith}
 use Rattle.std.specs.List.{flat_map}
 use Rattle.std.proofs.lemmas.List.Sums.{sum_by-append}
-use Rattle.std.proofs.lemmas.Grind.{common_steps}
 use Rattle.httparse.specs.Ascii.{colon, space}
 use Rattle.httparse.specs.Grammar.{RequestHead, Field, LineEnd, crlf, lf, print_end, print_field, print_section, print_request, print_blank, print_version}
 use Rattle.http_read.specs.Messages.{IsHead, lines}

@@ -1,6 +1,5 @@
 -- The request of a message.
 use Rattle.std.proofs.Common.{◌≡◌, ℕ, ◌+◌, ◌-◌, ◌≤◌, ◌<◌, Bool, List, ◌++◌, length, take, drop, Option, Some, None, refl, sym, ap, ◌∙◌, subst, inr, arith}
-use Rattle.std.specs.Prelude.{slice_range}
 use Rattle.std.proofs.lemmas.Grind.{common_steps}
 use Rattle.std.proofs.lemmas.List.{drop-take}
 use Rattle.httparse.specs.declared.spans.Span.{Span}
@@ -9,8 +8,8 @@ use Rattle.httparse.specs.Spans.{span_bytes, IsWithin}
 use Rattle.sml_syntax.specs.declared.request.Request.{Request}
 use Rattle.http_read.specs.declared.parts.Parts.{Parts}
 use Rattle.http_read.specs.Form.{form_pairs}
-use Rattle.http_read.specs.Head.{Takes, judgement, fields_of, or_root, body_pairs, target_path, target_query, has_form_body, closes, request_of}
-use Rattle.http_read.specs.Messages.{Front, Held, Message, HasFront, ReadsHead, IsMessage}
+use Rattle.http_read.specs.Head.{or_root, body_pairs}
+use Rattle.http_read.specs.Messages.{Held, Message, HasFront, ReadsHead}
 use Rattle.http_read.specs.Parts.{IsParts, request_at}
 use Rattle.http_read.specs.Reader.{ReaderState}
 use Rattle.http_read.proofs.Spans.{take_take}

@@ -1,5 +1,5 @@
 -- How far the bytes were looked at stays as bytes come.
-use Rattle.std.proofs.Common.{◌≡◌, ℕ, zero, suc, ◌+◌, ◌≤◌, false, List, ◌-◌, ◌++◌, length, take, drop, Ok, Err, inl, inr, refl, sym, ap, ◌∙◌, subst, arith, length-append}
+use Rattle.std.proofs.Common.{◌≡◌, ℕ, zero, suc, ◌≤◌, false, List, ◌-◌, ◌++◌, length, take, drop, Ok, Err, inl, inr, refl, sym, ap, ◌∙◌, subst, arith, length-append}
 use Rattle.std.proofs.lemmas.Grind.{common_steps}
 use Rattle.std.proofs.lemmas.List.{take-append-le, drop-append-le}
 use Rattle.http_read.specs.declared.reader.Stage.{Stage}
@@ -77,7 +77,7 @@ looked_stands held (stage.Fault status) h = h
 
 -- Slices of what is held
 
-slice_rest : (bytes d : List ℕ) (start : ℕ) → d ≡ bytes → take (length d - start) (drop start d) ≡ drop start bytes
+pub slice_rest : (bytes d : List ℕ) (start : ℕ) → d ≡ bytes → take (length d - start) (drop start d) ≡ drop start bytes
 slice_rest bytes d start e =
     let all : take (length d - start) (drop start d) ≡ drop start d = grind (arith, common_steps) in all ∙ ap (drop start) e
 

@@ -1,7 +1,7 @@
 -- What a request's head says: RFC 9112, sections 3 (request line), 6 (body length) and 9.3 (closing), RFC 9110, sections
 -- 5.1 (names in any case), 7.2 (`Host`), 8.3 and 8.6 (type and length of the content), 15 (statuses).
 -- The head itself is by the grammar that `httparse` states.
-use Rattle.std.specs.Prelude.{◌≡◌, ℕ, ◌+◌, ◌-◌, ◌*◌, ◌==◌, Bool, true, false, ◌&&◌, ◌||◌, not, List, [], ◌∷◌, ◌++◌, length, take, drop, map, filter, if◌then◌else◌, nat_lt, bytes_eq, codes, Option, Some, None}
+use Rattle.std.specs.Prelude.{ℕ, ◌+◌, ◌-◌, ◌*◌, ◌==◌, Bool, true, false, ◌&&◌, ◌||◌, not, List, [], ◌∷◌, ◌++◌, length, take, drop, map, filter, if◌then◌else◌, nat_lt, bytes_eq, codes, Option, Some, None}
 use Rattle.std.specs.Char.{is_ascii_digit}
 use Rattle.std.specs.List.{list_any, list_all, before_first, after_first, position_or_len, slice_split}
 use Rattle.std.specs.Str.{str_eq_ignore_ascii_case}

@@ -1,5 +1,5 @@
 -- What the reader keeps.
-use Rattle.std.specs.Prelude.{◌≡◌, ℕ, ◌<◌, ◌≤◌, Bool, List, length, take, drop, Option, Some, None, Result, Ok, Err}
+use Rattle.std.specs.Prelude.{◌≡◌, ℕ, ◌≤◌, Bool, List, length, take, drop, Option, Some, None, Result, Ok, Err}
 use Rattle.sml_syntax.specs.declared.text.NoMemory.{NoMemory}
 use Rattle.httparse.specs.Grammar.{RequestHead}
 use Rattle.http_read.specs.declared.reader.Stage.{Stage}
@@ -56,7 +56,7 @@ IsLooked held (stage.Fault status) = IsAtStage held (stage.Fault status)
 
 -- what stands at the front of the bytes after a look, and how many bytes the message has
 abbrev pub IsNext : List ℕ → Stage → Next → ℕ → Type 0
-IsNext held at (next.Request request) size = HasFront held (Message request size) × (size ≤ length held)
+IsNext held at (next.Request request) size = HasFront held (Message request size) × (size ≤ length held) × (stage_fault at ≡ None)
 IsNext held at next.More size = HasFront held Held × (stage_fault at ≡ None)
 IsNext held at (next.Bad status) size = HasFront held (Fault status) × (stage_fault at ≡ Some status)
 

@@ -1,8 +1,6 @@
-use Rattle.std.proofs.Common.{◌≡◌, ◌+◌, ◌&&◌, length, map, All}
-use Rattle.std.specs.Prelude.{codes}
-use Rattle.std.specs.List.{list_any, list_all}
+use Rattle.std.proofs.Common.{◌≡◌, length, map, All}
 use Rattle.httparse.specs.Spans.{IsHeaderWithin, header_bytes}
-use Rattle.http_read.specs.Head.{has_field, count_fields, values_of, first_value, is_length, length_values, is_named, lists_close}
+use Rattle.http_read.specs.Head.{has_field}
 use Rattle.http_read.proofs.fields.has_field.Given as goal
 
 abbrev pub invariant-loop-rest : goal.invariant-loop-rest
