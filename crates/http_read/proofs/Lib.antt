@@ -1,0 +1,13 @@
+pub mod Begins
+pub mod Cuttings
+pub mod Fronts
+pub mod Heads
+pub mod Lengths
+pub mod Lines
+pub mod Lists
+pub mod Lone
+pub mod Nexts
+pub mod Requests
+pub mod Spans
+pub mod Stages
+pub mod Steps

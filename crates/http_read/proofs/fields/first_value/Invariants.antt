@@ -1,0 +1,13 @@
+use Rattle.std.proofs.Common.{◌≡◌, length, map, All}
+use Rattle.httparse.specs.Spans.{IsHeaderWithin, header_bytes}
+use Rattle.http_read.specs.Head.{values_of, first_value}
+use Rattle.http_read.proofs.fields.first_value.Given as goal
+
+abbrev pub invariant-loop-rest : goal.invariant-loop-rest
+invariant-loop-rest l = record {
+  within : All (IsHeaderWithin (length l.bytes)) l.rest;
+  left : first_value (values_of l.name (map (header_bytes l.bytes) l.rest)) ≡ first_value (values_of l.name (map (header_bytes l.bytes) l.fields));
+}
+
+abbrev pub decreases-loop-rest : goal.decreases-loop-rest
+decreases-loop-rest l = length l.rest
