@@ -9,7 +9,11 @@ mod copied;
 #[cfg(test)]
 mod data;
 #[cfg(test)]
+mod keepers;
+#[cfg(test)]
 mod requests;
+#[cfg(test)]
+mod statements;
 #[cfg(test)]
 mod tests;
 #[cfg(test)]

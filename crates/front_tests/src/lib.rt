@@ -4,6 +4,8 @@
 #[cfg(test)]
 mod alike;
 #[cfg(test)]
+mod basis;
+#[cfg(test)]
 mod declarations;
 #[cfg(test)]
 mod expressions;
