@@ -8,6 +8,8 @@ mod declarations;
 #[cfg(test)]
 mod expressions;
 #[cfg(test)]
+mod parse_table;
+#[cfg(test)]
 mod patterns;
 #[cfg(test)]
 mod tests;
