@@ -1,4 +1,4 @@
-//! Tests of trees and tokens, in a crate of their own: a crate with tests is proved twice.
+//! Tests of tokens and trees, in a crate of their own: a crate with tests is proved twice.
 #![tactic(auto)]
 
 #[cfg(test)]
@@ -6,14 +6,8 @@ mod alike;
 #[cfg(test)]
 mod basis;
 #[cfg(test)]
-mod declarations;
-#[cfg(test)]
-mod expressions;
+mod copies;
 #[cfg(test)]
 mod lex_table;
 #[cfg(test)]
-mod patterns;
-#[cfg(test)]
-mod tests;
-#[cfg(test)]
-mod tokens;
+mod parse_table;

@@ -1,0 +1,4 @@
+pub mod Curried
+pub mod Folds
+pub mod LackSearch
+pub mod Parsed

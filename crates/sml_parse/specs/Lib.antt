@@ -1,0 +1,5 @@
+pub mod Values
+pub mod Building
+pub mod Heights
+pub mod Lacks
+pub mod Parsed
