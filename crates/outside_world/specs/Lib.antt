@@ -1,3 +1,4 @@
 pub mod Told
 pub mod FaultPlan
 pub mod Stored
+pub mod Answering

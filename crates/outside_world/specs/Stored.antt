@@ -1,5 +1,5 @@
 -- What contracts see of the objects in memory.
-use Rattle.std.specs.Prelude.{ℕ, List, [], ◌∷◌, Option, Some, None, if◌then◌else◌}
+use Rattle.std.specs.Prelude.{ℕ, ◌==◌, min, List, [], ◌∷◌, Option, Some, None, if◌then◌else◌}
 use Rattle.std.specs.Str.{bytes_eq}
 use Rattle.outside_world.specs.FaultPlan.{FaultPlan}
 
@@ -38,3 +38,27 @@ or_empty (Some text) = Some text
 abbrev pub at_least_zero : List ℕ → List ℕ
 at_least_zero [] = 0 ∷ []
 at_least_zero (reading ∷ later) = reading ∷ later
+
+-- a connection in memory, and which of its reads and writes fail
+pub record ConnState : Type 0 where
+  pub given : List ℕ
+  pub left : List ℕ
+  pub reads : FaultPlan
+  pub written : List ℕ
+  pub writes : FaultPlan
+
+-- a connection in memory of which no call fails
+pub record SureConnState : Type 0 where
+  pub given : List ℕ
+  pub left : List ℕ
+  pub written : List ℕ
+
+-- the size of the next piece where so many bytes fit: the first size that isn't 0, or all that fits
+abbrev pub piece_size : List ℕ → ℕ → ℕ
+piece_size [] room = room
+piece_size (size ∷ sizes) room = if size == 0 then piece_size sizes room else min size room
+
+-- the sizes after that one
+abbrev pub sizes_after : List ℕ → List ℕ
+sizes_after [] = []
+sizes_after (size ∷ sizes) = if size == 0 then sizes_after sizes else sizes

@@ -7,12 +7,18 @@
 //! Each object counts its faults. A call answers `Failed` only where its count rose, and no count falls.
 #![tactic(auto)]
 
+mod answerer;
 mod clock;
+mod connection;
 mod files;
 mod memory;
 mod stream;
 
+pub use answerer::Answerer;
 pub use clock::Clock;
+pub use connection::{Both, Conn};
 pub use files::{FileRefusal, Files};
-pub use memory::{MemClock, MemFiles, MemSink, MemSource, SureFiles, SureSink, SureSource};
+pub use memory::{
+    MemClock, MemConn, MemFiles, MemSink, MemSource, SureConn, SureFiles, SureSink, SureSource,
+};
 pub use stream::{Failed, Sink, Source, WriteRefusal, write_all};

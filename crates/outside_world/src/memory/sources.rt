@@ -10,7 +10,7 @@ use std::marker::Model;
 
 // Bytes, and how many of them were given.
 #[derive(Drop)]
-struct Unread {
+pub struct Unread {
     bytes: Vec<u8>,
     at: usize,
 }
@@ -27,7 +27,7 @@ impl Model for Unread {
 }
 
 impl Unread {
-    fn make(alloc: Global, bytes: &[u8]) -> Result<Unread, NoMemory>
+    pub fn make(alloc: Global, bytes: &[u8]) -> Result<Unread, NoMemory>
         ensures { IfOk result (λ u. u ≡ record { given = []; left = bytes.now }) }
     {
         Ok(Unread {
@@ -37,7 +37,7 @@ impl Unread {
     }
 
     // Gives as many bytes as the piece has room for.
-    fn give(&mut self, piece: &mut [u8]) -> usize
+    pub fn give(&mut self, piece: &mut [u8]) -> usize
         ensures count { result ≡ min (length piece.old) (length self.old.left) }
         ensures given { self.new.given ≡ self.old.given ++ take result piece.new }
         ensures left { self.old.left ≡ take result piece.new ++ self.new.left }

@@ -1,0 +1,20 @@
+//! Tests of data, calls, requests and values, in a crate of their own: a crate with tests is proved
+//! twice.
+#![tactic(auto)]
+
+#[cfg(test)]
+mod calls;
+#[cfg(test)]
+mod copied;
+#[cfg(test)]
+mod data;
+#[cfg(test)]
+mod keepers;
+#[cfg(test)]
+mod requests;
+#[cfg(test)]
+mod statements;
+#[cfg(test)]
+mod tests;
+#[cfg(test)]
+mod values;

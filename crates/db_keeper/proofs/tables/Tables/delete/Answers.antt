@@ -1,0 +1,19 @@
+use Rattle.std.proofs.Common.{◌≡◌, ap, sym, ◌∙◌}
+use Rattle.std.specs.Option.{option_copied_mut}
+use Rattle.sml_syntax.specs.declared.database.DbAns.TheVariants as ans
+use Rattle.db_keeper.specs.DatabaseMachine.{effect}
+use Rattle.db_keeper.specs.Shown.{tables_of}
+use Rattle.db_keeper.proofs.Maps.{looked, set_by}
+use Rattle.db_keeper.proofs.Commands.{no_table, deleted}
+use Rattle.db_keeper.proofs.tables.Tables.delete.Goals as goal
+
+pub returns-in_default-clause-step : goal.returns-in_default-clause-step
+returns-in_default-clause-step c =
+    no_table c.args.name.now c.args.self.now c.self.inside.tables (sym c.self.view_is) _ (sym (ap option_copied_mut c.in_default.is) ∙ (c.get_mut.ensures.value ∙ looked c.self.inside.tables _ _ c.as_bytes.ensures))
+    ∙ ap (effect ans.NoTable) (sym c.self.view_is ∙ sym (ap tables_of c.get_mut.follows.holds-at-none))
+
+pub returns-clause-step : goal.returns-clause-step
+returns-clause-step c =
+    let w = c.remove_row.new.table in
+    deleted c.args.name.now c.args.self.now c.self.inside.tables (sym c.self.view_is) c.in-Some.table.now w (c.get_mut.follows.lender w)
+    (c.in-Some.ensures.value ∙ looked c.self.inside.tables _ _ c.as_bytes.ensures) ((c.get_mut.follows.holds w).0 ∙ set_by c.self.inside.tables _ _ c.as_bytes.ensures w) c.args.key.now c.remove_row.ensures

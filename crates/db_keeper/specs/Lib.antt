@@ -1,0 +1,3 @@
+pub mod DatabaseMachine
+pub mod Keeping
+pub mod Shown

@@ -1,0 +1,4 @@
+pub mod Scans
+pub mod Meaning
+pub mod Fronts
+pub mod Commands

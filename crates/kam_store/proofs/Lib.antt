@@ -1,0 +1,10 @@
+pub mod Rising
+pub mod Live
+pub mod Joined
+pub mod Moves
+pub mod Bounds
+pub mod Account
+pub mod LastPage
+pub mod Store
+pub mod Paged
+pub mod PlainLive

@@ -1,0 +1,10 @@
+pub mod Store
+pub mod Writing
+pub mod Serials
+pub mod Plain
+pub mod PlainKept
+pub mod Joined
+pub mod Moves
+pub mod Paging
+pub mod Paged
+pub mod PagedKept

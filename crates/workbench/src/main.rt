@@ -1,0 +1,23 @@
+//! Measures the parts whose speed matters. With no argument each load is small, and what is
+//! printed is sure. With a name and a count, as `region_store 10000000`, that load is timed.
+#![tactic(auto)]
+
+mod region_store;
+
+use std::{env, io};
+
+fn main(rt: HostRuntime) -> io::Result<()> {
+    let mut words = env::args(&rt)?;
+    let _ = words.next();
+    let Some(name) = words.next() else {
+        return region_store::small(&rt);
+    };
+    let count: u32 = match words.next() {
+        Some(text) => text.parse().unwrap_or(0),
+        None => 0,
+    };
+    match name.as_str() {
+        "region_store" => region_store::timed(&rt, count),
+        _ => println!(rt; "no such load: {name}"),
+    }
+}
