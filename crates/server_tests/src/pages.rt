@@ -67,9 +67,12 @@ fn writes_what_scripts_write(rt: HostRuntime) -> Result<(), Fail> {
         ("val _ = Web.write \"a\"", "a"),
         ("val _ = Web.write \"\"", ""),
         ("val _=Web.write\"a\"", "a"),
+        ("val _ = (Web.write \"a\")", "a"),
         ("\x0c\tval\r\n_ =\nWeb.write ( \"(*\" ) \n", "(*"),
+        ("val _ = Web.write (* a comment *) \"a\";", "a"),
+        ("val _ = Web.write ((\"a\" ^ \"b\") ^ \"c\")", "abc"),
         (
-            "val _ = Web.write(\"x\"^Int.toString(0042*9999))",
+            "val _ = Web.write(\"x\"^Int.toString(00042*9999))",
             "x419958",
         ),
         (
@@ -98,17 +101,16 @@ fn refuses_other_scripts(rt: HostRuntime) -> Result<(), Fail> {
     for script in [
         "",
         "val _ = 1",
+        "val x = Web.write \"a\"",
         "val_ = Web.write \"a\"",
         "val _ = Web.write \"a\" ^ \"b\"",
         "val _ = Web.write (\"a\" ^^ \"b\")",
+        "val _ = Web.write (\"a\" ^ (\"b\" ^ \"c\"))",
         "val _ = Web.write ()",
-        "val _ = Web.write (\"a\" ^)",
         "val _ = Web.writex \"a\"",
-        "val _ = Web.write \"a\" (* a comment *)",
-        "val _ = Web.write (* a comment *) \"a\"",
         "val _ = Web.write \"a\\n\"",
         "val _ = Web.write \"a\"\nval _ = Web.write \"b\"",
-        "val _ = Web.write (Int.toString (12345 * 1))",
+        "val _ = Web.write (Int.toString (10000 * 1))",
         "val _ = Web.write (Int.toString (~1 * 1))",
         "val _ = Web.write (Int.toString 6)",
         "val _ = Web.write Int.toString (6 * 7)",
@@ -145,6 +147,14 @@ fn refuses_mistakes_with_their_places(rt: HostRuntime) -> Result<(), Fail> {
         ),
         ("val _ = (* (* *)", "refused hello.sml 8 OpenComment\n"),
         ("val _ = `a^(`b", "refused hello.sml 8 OpenQuote\n"),
+        (
+            "val _ = Web.write (\"a\" ^)",
+            "refused hello.sml 24 Unexpected\n",
+        ),
+        (
+            "exception E = F",
+            "refused hello.sml 10 Unsupported Replication\n",
+        ),
     ] {
         check(
             &rt,
@@ -287,6 +297,25 @@ fn padded<A: Allocator>(alloc: A, text: &str, length: usize) -> Result<String<A>
         padded.push(' ')?;
     }
     Ok(padded)
+}
+
+#[test]
+fn refuses_a_script_that_is_too_high(rt: HostRuntime) -> Result<(), Fail> {
+    let mut script = String::new(rt.alloc());
+    script.push_str("val _ = ")?;
+    for _ in 0..1000 {
+        script.push_str("fn x => ")?;
+    }
+    script.push('x')?;
+    check(
+        &rt,
+        &Run {
+            script: script.as_str(),
+            status: 3,
+            output: "refused hello.sml 0 TooDeep\n",
+            ..HELLO
+        },
+    )
 }
 
 #[test]

@@ -1,7 +1,8 @@
 -- The facts of a page, put together.
-use Rattle.std.proofs.Common.{◌≡◌, ℕ, ◌≤◌, List, [], length, Option, refl, sym, ◌∙◌, inl, inr, subst}
+use Rattle.std.proofs.Common.{◌≡◌, ℕ, List, [], Option, sym, ◌∙◌, inl, inr, subst}
 use Rattle.outside_world.specs.Told.{Contents, GrewByFront}
-use Rattle.sml_syntax.specs.declared.token.Token.{Token}
+use Rattle.sml_syntax.specs.declared.tree.Dec.{Dec}
+use Rattle.sml_syntax.specs.declared.tree.Program.{Program}
 use Rattle.smlserver_top.specs.declared.page.Stop.{Stop}
 use Rattle.smlserver_top.specs.declared.page.Stop.TheVariants.{BadWords, Refused}
 use Rattle.smlserver_top.specs.declared.refusal.ScriptRefusal.{ScriptRefusal}
@@ -9,16 +10,13 @@ use Rattle.smlserver_top.specs.declared.refusal.ScriptRefusal.TheVariants as scr
 use Rattle.smlserver_top.specs.declared.refusal.Reason.{Reason}
 use Rattle.smlserver_top.specs.declared.refusal.Reason.TheVariants.{FileFault, NotBuilt, Mistaken}
 use Rattle.smlserver_top.specs.declared.part.Part.{Part}
-use Rattle.smlserver_top.specs.Script.{IsScript}
+use Rattle.smlserver_top.specs.Straight.{IsStraight}
 use Rattle.smlserver_top.specs.Project.{IsProject}
 use Rattle.smlserver_top.specs.Words.{IsPageCommand}
 use Rattle.sml_syntax.specs.Page.{PageOf, Finished, html_type}
-use Rattle.sml_syntax.specs.Tokens.{HasTokens}
 use Rattle.smlserver_top.specs.Parts.{text_of}
-use Rattle.smlserver_top.specs.Tree.{decs_of}
-use Rattle.smlserver_top.specs.Reasons.{refusal_line}
-use Rattle.smlserver_top.proofs.Evaluated.{script_page}
-use Rattle.smlserver_top.proofs.Bounds.{small_parts}
+use Rattle.smlserver_top.specs.Reasons.{HasTree, refusal_line}
+use Rattle.smlserver_top.proofs.Evaluated.{straight_page}
 use Rattle.smlserver_top.specs.Page.{project_most, script_most, HoldsText, LeadsTo, HasBody, HasNoParts, IsPage, IsBadProject, IsRefused, HasCause, HasScriptCause, IsAnswer, IsUnfinished, bad_words_line}
 
 -- the text is seen as bytes, and a name as the copy of another
@@ -58,16 +56,21 @@ pub refusal_begun : (contents : Contents) (before after : ℕ) (words : List (Li
 refusal_begun contents before after words stop file reason old new bytes line e cause l b grew =
     inr (bytes, inr (inr (file, reason, subst (HasCause contents before after words) e cause, b ∙ l)), grew)
 
--- the script's parts are few and small, so the evaluation of its declarations gives the text of its parts
-pub has_body : (text : List ℕ) (tokens : List Token) (parts : List Part) (body : List ℕ) → HasTokens text tokens → length text ≤ script_most → IsScript text parts → body ≡ text_of parts → HasBody text body
-has_body text tokens parts body lexed short form e =
+-- the evaluation of straight declarations gives the text of their parts
+pub has_body : (script : List ℕ) (program : Program) (items : List Dec) (parts : List Part) (body : List ℕ) → HasTree script program → items ≡ program.items → IsStraight items parts → body ≡ text_of parts → HasBody script body
+has_body script program items parts body tree same form e =
+    let straight = subst (λ decs. IsStraight decs parts) same form in
     record {
-      tokens = tokens;
-      lexed = lexed;
-      decs = decs_of parts;
-      form = (parts, form, refl);
-      evaluated = subst (λ t. PageOf (decs_of parts) [] [] [] [] (Finished 200 html_type t)) (sym e) (script_page parts (small_parts text parts form short) [] []);
+      program = program;
+      tree = tree;
+      parts = parts;
+      form = straight;
+      evaluated = subst (λ t. PageOf program.items [] [] [] [] (Finished 200 html_type t)) (sym e) (straight_page program.items parts straight [] []);
     }
+
+pub no_parts : (script : List ℕ) (program : Program) (items : List Dec) → HasTree script program → items ≡ program.items → ((parts : List Part) → IsStraight items parts → ⊥) → HasNoParts script
+no_parts script program items tree same none =
+    record { program = program; tree = tree; none = λ parts s. none parts (subst (λ decs. IsStraight decs parts) (sym same) s) }
 
 pub is_page : (contents now : Contents) (words : List (List ℕ)) (file text bytes body : List ℕ) → LeadsTo contents words file → now ≡ contents → HoldsText now script_most file text → bytes ≡ text → HasBody bytes body → IsPage contents words body
 is_page contents now words file text bytes body leads same held b has =

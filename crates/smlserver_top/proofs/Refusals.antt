@@ -1,13 +1,16 @@
 -- Files that tell what they hold lead to one refusal at most.
 use Rattle.std.proofs.Common.{◌≡◌, ◌⊎◌, ℕ, List, length, Option, Some, None, refl, ap, sym, ◌∙◌, inl, inr, subst, arith}
 use Rattle.outside_world.specs.Told.{Rose, Contents, LacksFile}
-use Rattle.sml_lex.proofs.Unique.{one-refusal, not-both}
+use Rattle.sml_lex.proofs.Unique.{one-partition, one-refusal, not-both}
+use Rattle.sml_parse.specs.Parsed.{parsed}
+use Rattle.sml_syntax.specs.declared.tree.Program.{Program}
 use Rattle.smlserver_top.specs.declared.refusal.Mistake.{Mistake}
 use Rattle.smlserver_top.specs.declared.refusal.Reason.{Reason}
 use Rattle.smlserver_top.specs.declared.refusal.Reason.TheVariants.{FileFault, NotBuilt, Mistaken}
 use Rattle.smlserver_top.specs.Project.{IsProject}
+use Rattle.smlserver_top.specs.Straight.{IsStraight}
 use Rattle.smlserver_top.specs.Words.{IsPageCommand, AreBadWords}
-use Rattle.smlserver_top.specs.Reasons.{lexical, IsMistaken, refusal_line}
+use Rattle.smlserver_top.specs.Reasons.{lexical, grammatical, HasTree, IsMistaken, refusal_line}
 use Rattle.smlserver_top.specs.Page.{project_most, script_most, HoldsText, HoldsUnfit, HasNoScript, LeadsTo, HasBody, HasNoParts, IsPage, IsAskedFor, IsBadProject, IsNotBuilt, IsMistakenScript, IsRefused, IsStatus, AreTold, bad_words_line}
 use Rattle.smlserver_top.proofs.Lines.{project_is_found}
 
@@ -52,14 +55,29 @@ leads_nowhere at words project file bad leads =
     no_other at project_most project leads.text (HasNoScript bad.0) (subst (λ p. HoldsText (Some at) project_most p leads.text) w.0 leads.project_held) (λ none. none file (subst (λ p. IsProject leads.text p file) w.1 leads.project_form)) bad.2
 
 -- a script with a body has parts, and no mistake
-not_both : (script body : List ℕ) → HasBody script body → HasNoParts script → ⊥
-not_both script body has none = none.none has.form.0 has.form.1
+one_tree : (script : List ℕ) (program other : Program) → HasTree script program → HasTree script other → program ≡ other
+one_tree script program other a b = let e = sym a.tree ∙ ap parsed (one-partition a.lexed b.lexed) ∙ b.tree in cc
 
-no_mistake : (script body : List ℕ) (found : ℕ × Mistake) → HasBody script body → IsMistaken script found → ⊥
-no_mistake script body found has mistaken = not-both has.lexed mistaken.1
+not_both : (script body : List ℕ) → HasBody script body → HasNoParts script → ⊥
+not_both script body has none =
+    let e = one_tree script has.program none.program has.tree none.tree in
+    none.none has.parts (subst (λ (p : Program). IsStraight p.items has.parts) e has.form)
+
+no_mistake : (script : List ℕ) (program : Program) (found : ℕ × Mistake) → HasTree script program → IsMistaken script found → ⊥
+no_mistake script program found has (inl (r, refused, e)) = not-both has.lexed refused
+no_mistake script program found has (inr (tokens, r, lexed, refused, e)) = let w = sym has.tree ∙ ap parsed (one-partition has.lexed lexed) ∙ refused in absurd (cc)
+
+same_some : (found other : ℕ × Mistake) → ◌≡◌ {A = Option (ℕ × Mistake)} (Some found) (Some other) → found ≡ other
+same_some found other e = cc
 
 one_mistake : (script : List ℕ) (found other : ℕ × Mistake) → IsMistaken script found → IsMistaken script other → found ≡ other
-one_mistake script found other a b = a.2 ∙ ap lexical (one-refusal a.1 b.1) ∙ sym b.2
+one_mistake script found other (inl (q, refused, e)) (inl (r, also, f)) = e ∙ ap lexical (one-refusal refused also) ∙ sym f
+one_mistake script found other (inl (q, refused, e)) (inr (tokens, r, lexed, also, f)) = absurd (not-both lexed refused)
+one_mistake script found other (inr (tokens, r, lexed, also, f)) (inl (q, refused, e)) = absurd (not-both lexed refused)
+one_mistake script found other (inr (tokens, q, lexed, refused, e)) (inr (others, r, again, also, f)) =
+    let w = sym refused ∙ ap parsed (one-partition lexed again) ∙ also in
+    let same : q ≡ r = cc in
+    same_some found other (sym e ∙ ap grammatical same ∙ f)
 
 -- the script of a file
 same_script : (at : Texts) (words : List (List ℕ)) (file other script text : List ℕ) → LeadsTo (Some at) words file → LeadsTo (Some at) words other → HoldsText (Some at) script_most file script → HoldsText (Some at) script_most other text → script ≡ text
@@ -75,7 +93,7 @@ no_page at words file body NotBuilt (inr bad) page =
     no_other at script_most file page.script HasNoParts (subst (λ f. HoldsText (Some at) script_most f page.script) e page.script_held) (not_both page.script body page.has_body) bad.1
 no_page at words file body (Mistaken place mistake) bad page =
     let e = same_script at words page.file file page.script bad.script page.leads bad.leads page.script_held bad.script_held in
-    no_mistake page.script body (place, mistake) page.has_body (subst (λ t. IsMistaken t (place, mistake)) (sym e) bad.mistaken)
+    no_mistake page.script page.has_body.program (place, mistake) page.has_body.tree (subst (λ t. IsMistaken t (place, mistake)) (sym e) bad.mistaken)
 
 asks : (contents : Contents) (words : List (List ℕ)) (file : List ℕ) (reason : Reason) → IsUnfit contents words file reason → AreBadWords words → ⊥
 asks contents words file FileFault bad none = bad
@@ -106,7 +124,7 @@ mistaken_form : (at : Texts) (words : List (List ℕ)) (file other : List ℕ) (
 mistaken_form at words file other found a (inl b) = leads_nowhere at words other file b a.leads
 mistaken_form at words file other found a (inr b) =
     let e = same_project at words file other a.leads b.0 in
-    no_other at script_most other a.script HasNoParts (subst (λ f. HoldsText (Some at) script_most f a.script) e a.script_held) (λ none. not-both none.lexed a.mistaken.1) b.1
+    no_other at script_most other a.script HasNoParts (subst (λ f. HoldsText (Some at) script_most f a.script) e a.script_held) (λ none. no_mistake a.script none.program found none.tree a.mistaken) b.1
 
 -- one file is refused for what it holds, and for one reason
 record Same (file other : List ℕ) (reason also : Reason) : Type 0 where

@@ -9,15 +9,12 @@ use Rattle.smlserver_top.specs.declared.refusal.Mistake.{Mistake}
 use Rattle.smlserver_top.specs.declared.refusal.Reason.{Reason}
 use Rattle.smlserver_top.specs.declared.refusal.Reason.TheVariants.{FileFault, NotBuilt, Mistaken}
 use Rattle.smlserver_top.specs.declared.part.Part.{Part}
-use Rattle.sml_syntax.specs.declared.tree.Dec.{Dec}
-use Rattle.sml_syntax.specs.declared.token.Token.{Token}
+use Rattle.sml_syntax.specs.declared.tree.Program.{Program}
 use Rattle.sml_syntax.specs.Page.{PageOf, Finished, html_type}
-use Rattle.sml_syntax.specs.Tokens.{HasTokens}
-use Rattle.smlserver_top.specs.Script.{IsScript}
-use Rattle.smlserver_top.specs.Tree.{IsScriptOf}
+use Rattle.smlserver_top.specs.Straight.{IsStraight}
 use Rattle.smlserver_top.specs.Project.{IsProject}
 use Rattle.smlserver_top.specs.Words.{IsPageCommand, AreBadWords}
-use Rattle.smlserver_top.specs.Reasons.{IsMistaken, refusal_line}
+use Rattle.smlserver_top.specs.Reasons.{HasTree, IsMistaken, refusal_line}
 
 -- the greatest lengths of a project file and of a script
 abbrev pub project_most : ℕ
@@ -52,20 +49,20 @@ pub record LeadsTo (contents : Contents) (words : List (List ℕ)) (file : List 
   pub project_held : HoldsText contents project_most project text
   pub project_form : IsProject text path file
 
--- the script is of the form that is run: evaluating its declarations from an empty store, without a form,
+-- the script's tree is of the form that is run: evaluating its declarations from an empty store, without a form,
 -- databases or answers, makes no call and ends with this body
 pub record HasBody (script body : List ℕ) : Type 0 where
-  pub tokens : List Token
-  pub lexed : HasTokens script tokens
-  pub decs : List Dec
-  pub form : IsScriptOf script decs
-  pub evaluated : PageOf decs [] [] [] [] (Finished 200 html_type body)
+  pub program : Program
+  pub tree : HasTree script program
+  pub parts : List Part
+  pub form : IsStraight program.items parts
+  pub evaluated : PageOf program.items [] [] [] [] (Finished 200 html_type body)
 
--- the script has tokens, and is not of the form that is run
+-- the script has a tree, and this is not of the form that is run
 pub record HasNoParts (script : List ℕ) : Type 0 where
-  pub tokens : List Token
-  pub lexed : HasTokens script tokens
-  pub none : (parts : List Part) → IsScript script parts → ⊥
+  pub program : Program
+  pub tree : HasTree script program
+  pub none : (parts : List Part) → IsStraight program.items parts → ⊥
 
 -- the page that the words ask for has this body: that of the script under the path
 pub record IsPage (contents : Contents) (words : List (List ℕ)) (body : List ℕ) : Type 0 where

@@ -1,11 +1,16 @@
 -- Why a file is refused: the names of the reasons, and what each says of a script's text.
-use Rattle.std.specs.Prelude.{◌≡◌, ℕ, List, [], ◌∷◌, ◌++◌, codes}
+use Rattle.std.specs.Prelude.{◌≡◌, ◌⊎◌, ℕ, List, [], ◌∷◌, ◌++◌, Option, Some, None, Ok, Err, codes}
 use Rattle.std.specs.Fmt.{decimal}
 use Rattle.sml_syntax.specs.declared.token.Lack.{Lack}
 use Rattle.sml_syntax.specs.declared.token.Lack.TheVariants as lack
 use Rattle.sml_syntax.specs.Spelling as spell
 use Rattle.sml_syntax.specs.Spelling.{Refusal}
-use Rattle.sml_syntax.specs.Tokens.{IsRefused}
+use Rattle.sml_syntax.specs.Tokens.{HasTokens, IsRefused}
+use Rattle.sml_syntax.specs.declared.token.Token.{Token}
+use Rattle.sml_syntax.specs.declared.tree.Program.{Program}
+use Rattle.sml_parse.specs.declared.parser.ParseRefusal.{ParseRefusal}
+use Rattle.sml_parse.specs.declared.parser.ParseRefusal.TheVariants as parse
+use Rattle.sml_parse.specs.Parsed.{parsed}
 use Rattle.smlserver_top.specs.declared.refusal.Mistake.{Mistake}
 use Rattle.smlserver_top.specs.declared.refusal.Mistake.TheVariants as mistake
 use Rattle.smlserver_top.specs.declared.refusal.Reason.{Reason}
@@ -20,9 +25,30 @@ lexical (spell.OpenQuote n) = (n, mistake.OpenQuote)
 lexical (spell.WideNumber n) = (n, mistake.WideNumber)
 lexical (spell.Unsupported n l) = (n, mistake.Unsupported l)
 
+-- and of a refusal of the parser; want of memory says nothing
+abbrev pub grammatical : ParseRefusal → Option (ℕ × Mistake)
+grammatical (parse.Unexpected n) = Some (n, mistake.Unexpected)
+grammatical (parse.Unsupported n l) = Some (n, mistake.Unsupported l)
+grammatical (parse.TooDeep n) = Some (n, mistake.TooDeep)
+grammatical parse.NoMemory = None
+
+-- the tree of a script: its tokens', as the parser's machine gives it
+pub record HasTree (script : List ℕ) (program : Program) : Type 0 where
+  pub tokens : List Token
+  pub lexed : HasTokens script tokens
+  pub tree : parsed tokens ≡ Ok program
+
+-- the lexical refusal that a script meets first
+abbrev pub IsMisspelt : List ℕ → ℕ × Mistake → Type 0
+IsMisspelt script found = (r : Refusal) × IsRefused script r × (found ≡ lexical r)
+
+-- what the parser's machine refuses in a script's tokens
+abbrev pub IsUngrammatical : List ℕ → ℕ × Mistake → Type 0
+IsUngrammatical script found = (tokens : List Token) × (r : ParseRefusal) × HasTokens script tokens × (parsed tokens ≡ Err r) × (grammatical r ≡ Some found)
+
 -- the first mistake of a script
 abbrev pub IsMistaken : List ℕ → ℕ × Mistake → Type 0
-IsMistaken script found = (r : Refusal) × IsRefused script r × (found ≡ lexical r)
+IsMistaken script found = IsMisspelt script found ⊎ IsUngrammatical script found
 
 -- the names
 abbrev pub lack_name : Lack → List ℕ
@@ -49,6 +75,8 @@ mistake_name mistake.OpenComment = codes "OpenComment"
 mistake_name mistake.OpenString = codes "OpenString"
 mistake_name mistake.OpenQuote = codes "OpenQuote"
 mistake_name mistake.WideNumber = codes "WideNumber"
+mistake_name mistake.Unexpected = codes "Unexpected"
+mistake_name mistake.TooDeep = codes "TooDeep"
 mistake_name (mistake.Unsupported l) = codes "Unsupported " ++ lack_name l
 
 abbrev pub reason_name : Reason → List ℕ

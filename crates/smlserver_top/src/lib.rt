@@ -9,8 +9,8 @@ mod part;
 mod project;
 mod refusal;
 mod run;
-mod script;
 mod spelling;
+mod straight;
 mod syntax;
 mod words;
 

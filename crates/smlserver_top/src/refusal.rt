@@ -13,6 +13,8 @@ pub(crate) enum Mistake {
     OpenString,
     OpenQuote,
     WideNumber,
+    Unexpected,
+    TooDeep,
     Unsupported(Lack),
 }
 
@@ -75,6 +77,8 @@ fn push_mistake(line: &mut Vec<u8>, mistake: Mistake) -> Result<(), NoMemory>
         Mistake::OpenString => line.extend_from_slice(b"OpenString")?,
         Mistake::OpenQuote => line.extend_from_slice(b"OpenQuote")?,
         Mistake::WideNumber => line.extend_from_slice(b"WideNumber")?,
+        Mistake::Unexpected => line.extend_from_slice(b"Unexpected")?,
+        Mistake::TooDeep => line.extend_from_slice(b"TooDeep")?,
         Mistake::Unsupported(lack) => {
             line.extend_from_slice(b"Unsupported ")?;
             line.extend_from_slice(lack_name(lack))?;

@@ -1,11 +1,13 @@
-// The tokens of a script, or its first mistake.
+// The tree of a script, or its first mistake.
 ghost use Rattle.std.specs.Prelude.{◌≡◌, IfOk, IfErr};
 ghost use Rattle.sml_syntax.specs.Tokens.{HasTokens};
+ghost use Rattle.smlserver_top.specs.Reasons.{HasTree};
 ghost use Rattle.smlserver_top.specs.Page.{HasScriptCause};
 
 use crate::refusal::{Mistake, Reason, ScriptRefusal};
 use sml_lex::{LexRefusal, lex};
-use sml_syntax::Token;
+use sml_parse::{ParseRefusal, parse};
+use sml_syntax::{Program, Token};
 use std::alloc::Global;
 
 // The refusal of a mistake at a place.
@@ -15,8 +17,8 @@ fn mistaken(place: u64, mistake: Mistake) -> ScriptRefusal
     ScriptRefusal::Refused(Reason::Mistaken(place, mistake))
 }
 
-/// The tokens of a script.
-pub(crate) fn script_tokens(alloc: Global, script: &[u8]) -> Result<Vec<Token>, ScriptRefusal>
+// The tokens of a script.
+fn script_tokens(alloc: Global, script: &[u8]) -> Result<Vec<Token>, ScriptRefusal>
     ensures tokens { IfOk result (λ tokens. HasTokens script.now tokens.items) }
     ensures refused { IfErr result (HasScriptCause script.now) }
 {
@@ -31,5 +33,22 @@ pub(crate) fn script_tokens(alloc: Global, script: &[u8]) -> Result<Vec<Token>, 
             Err(mistaken(place, Mistake::Unsupported(lack)))
         }
         Err(LexRefusal::NoMemory) => Err(ScriptRefusal::NoMemory),
+    }
+}
+
+/// The tree of a script.
+pub(crate) fn script_tree(alloc: Global, script: &[u8]) -> Result<Program, ScriptRefusal>
+    ensures tree { IfOk result (HasTree script.now) }
+    ensures refused { IfErr result (HasScriptCause script.now) }
+{
+    let tokens = script_tokens(alloc, script)?;
+    match parse(alloc, &tokens) {
+        Ok(program) => Ok(program),
+        Err(ParseRefusal::Unexpected(place)) => Err(mistaken(place, Mistake::Unexpected)),
+        Err(ParseRefusal::Unsupported(place, lack)) => {
+            Err(mistaken(place, Mistake::Unsupported(lack)))
+        }
+        Err(ParseRefusal::TooDeep(place)) => Err(mistaken(place, Mistake::TooDeep)),
+        Err(ParseRefusal::NoMemory) => Err(ScriptRefusal::NoMemory),
     }
 }
