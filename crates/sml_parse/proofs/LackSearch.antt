@@ -1,9 +1,12 @@
 -- The searches for lacks, one step further.
-use Rattle.std.proofs.Common.{◌≡◌, ℕ, ◌<◌, List, [], ◌∷◌, ◌++◌, length, Bool, true, false, cond, Option, Some, None, refl, ap, sym, ◌∙◌, arith}
+use Rattle.std.proofs.Common.{◌≡◌, ℕ, zero, suc, ◌+◌, ◌<◌, ◌≤◌, List, [], ◌∷◌, ◌++◌, length, get_or, drop, true, false, cond, Option, Some, None, refl, ap, sym, ◌∙◌, arith}
+use Rattle.std.proofs.Math.Dec.{eqb-zero-suc, eqb-suc-suc}
 use Rattle.std.proofs.lemmas.List.{append_assoc}
+use Rattle.std.specs.Prelude.{nat_eq}
 use Rattle.std.specs.Str.{bytes_eq}
 use Rattle.sml_syntax.specs.NestedTypes.{Found}
 use Rattle.sml_grammar.specs.declared.act.Made.{Made}
+use Rattle.sml_parse.proofs.Folds.{at_item}
 use Rattle.sml_parse.specs.Lacks.{Own, ends_datatypes, head_of, own_of, own_types, vars_after, variables_of, pushed, same_name, var_of, is_push, lack_from, lower, lack_of, own_after, first_lack}
 
 pub own_none : (vars : List (List ℕ)) (ms : List Made) → ms ≡ [] → own_types vars ms ≡ []
@@ -68,6 +71,24 @@ pushed_no_push name names m n ms h k = ap (λ b. cond b (cond (is_push n.act) (p
 pub pushed_next : (name : List ℕ) (names : List (List ℕ)) (m n : Made) (ms : List Made) → same_name name (var_of m.act) ≡ true → is_push n.act ≡ true → pushed (name ∷ names) (m ∷ n ∷ ms) ≡ pushed names ms
 unfolding pushed
 pushed_next name names m n ms h k = ap (λ b. cond b (cond (is_push n.act) (pushed names ms) false) false) h ∙ ap (λ b. cond b (pushed names ms) false) k
+
+pub pushed_of : (names names' : List (List ℕ)) (ms ms' : List Made) → names ≡ names' → ms ≡ ms' → pushed names ms ≡ pushed names' ms'
+pushed_of names names' ms ms' e f = ap (λ w. pushed w ms) e ∙ ap (pushed names') f
+
+-- no variable is left: nor is an act
+pub pushed_none : (ms : List Made) (at : ℕ) → at ≤ length ms → nat_eq at (length ms) ≡ pushed [] (drop at ms)
+unfolding pushed
+pushed_none [] zero h = refl
+pushed_none [] (suc at) h = absurd (omega arith)
+pushed_none (m ∷ ms) zero h = eqb-zero-suc (length ms)
+pushed_none (m ∷ ms) (suc at) h = eqb-suc-suc at (length ms) ∙ pushed_none ms at (omega arith)
+
+-- two acts, and those behind them
+pub two_items : (ms : List Made) (at : ℕ) (d e m n : Made) → m ≡ get_or ms at d → n ≡ get_or ms (at + 1) e → at + 2 ≤ length ms → drop at ms ≡ m ∷ n ∷ drop (at + 2) ms
+two_items ms at d e m n p q h = at_item ms at d m p (omega arith) ∙ ap (λ w. m ∷ w) (at_item ms (at + 1) e n q (omega arith)) ∙ ap (λ k. m ∷ n ∷ drop k ms) (next at)
+  where
+    next : (n : ℕ) → n + 1 + 1 ≡ n + 2
+    next n = omega arith
 
 -- one act more of the search for the first lack
 pub lack_kept : (found found' looked : Option Found) (own own' given : Own) (before before' ms more : List Made) (m : Made) (whole : Option Found) → ms ≡ m ∷ more → before' ≡ before ++ m ∷ [] → found' ≡ lower found looked → looked ≡ lack_of given before m.act → given ≡ own → own' ≡ own_after own m.act more → lack_from found own before ms ≡ whole → lack_from found' own' before' more ≡ whole

@@ -102,20 +102,20 @@ fn same_name(name: &Text, found: Option<&Text>) -> bool
 fn pushed(names: &[Text], acts: &[Made]) -> bool
     ensures { result ≡ pushed names.now acts.now }
 {
-    let mut rest = acts;
+    let mut at = 0;
     for name in names {
-        if rest.len() < 2 {
+        if acts.len() - at < 2 {
             return false;
         }
-        if !same_name(name, var_of(&rest[0].act)) {
+        if !same_name(name, var_of(&acts[at].act)) {
             return false;
         }
-        if !is_push(&rest[1].act) {
+        if !is_push(&acts[at + 1].act) {
             return false;
         }
-        rest = &rest[2..];
+        at += 2;
     }
-    rest.is_empty()
+    at == acts.len()
 }
 
 /// Whether acts make a list of arguments, which are these variables.

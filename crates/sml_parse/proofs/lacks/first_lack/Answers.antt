@@ -1,8 +1,8 @@
-use Rattle.std.proofs.Common.{◌≡◌, ℕ, suc, ◌+◌, ◌<◌, List, [], ◌∷◌, ◌++◌, None, length, get_or, take, drop, ap, sym, ◌∙◌, arith}
-use Rattle.std.proofs.lemmas.List.{drop_all}
+use Rattle.std.proofs.Common.{◌≡◌, ℕ, suc, ◌+◌, ◌-◌, ◌<◌, List, [], ◌∷◌, ◌++◌, None, length, get_or, take, drop, refl, ap, sym, ◌∙◌, arith}
+use Rattle.std.proofs.lemmas.List.{drop_all, take_all, length-drop}
 use Rattle.std.proofs.Math.Seq.{take-suc}
 use Rattle.sml_grammar.specs.declared.act.Made.{Made}
-use Rattle.sml_parse.specs.Lacks.{lack_from, first_lack}
+use Rattle.sml_parse.specs.Lacks.{lack_from, own_after, first_lack}
 use Rattle.sml_parse.proofs.Folds.{at_item}
 use Rattle.sml_parse.proofs.LackSearch.{lack_start, lack_kept, lack_none}
 use Rattle.sml_parse.proofs.lacks.first_lack.Goals as goal
@@ -20,9 +20,9 @@ pub loop-i-preserved : goal.loop-i-preserved
 loop-i-preserved c =
     let acts = c.args.acts.now in
     let i = c.loop-i.i in
-    let m = c.index-acts-i.result in
+    let m = get_or acts i c.index-acts-i.result in
     lack_kept c.loop-i.found c.lower-found.result c.lack_of.result c.loop-i.own.items c.in_ok-own.own.items c.as_slice.result.now (take i acts) (take (i + 1) acts) (drop i acts) (drop (i + 1) acts) m (first_lack acts)
-    (at_item acts i _ m c.index-acts-i.is c.loop-i-test.true) (upto acts i _ m c.index-acts-i.is c.loop-i-test.true) c.lower-found.ensures c.lack_of.ensures c.as_slice.ensures.value c.in_ok-own.ensures c.loop-i.invariant
+    (at_item acts i c.index-acts-i.result m refl c.loop-i-test.true) (upto acts i c.index-acts-i.result m refl c.loop-i-test.true) c.lower-found.ensures c.lack_of.ensures c.as_slice.ensures.value (c.in_ok-own.ensures ∙ ap (own_after c.loop-i.own.items m.act) (take_all (length acts - (i + 1)) (drop (i + 1) acts) (omega (arith, length-drop (i + 1) acts)))) c.loop-i.invariant
 
 pub returns : goal.returns
 returns c =
