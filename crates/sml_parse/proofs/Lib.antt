@@ -1,4 +1,5 @@
 pub mod Curried
 pub mod Folds
+pub mod Items
 pub mod LackSearch
 pub mod Parsed

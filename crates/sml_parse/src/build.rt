@@ -25,7 +25,7 @@ fn perform(alloc: Global, values: &mut Values, act: Act, to: u64) -> Result<(), 
 }
 
 /// The items that acts build.
-#[tactic(auto, unfolding(crate::specs::Building::program_of))]
+#[tactic(auto, using(crate::proofs::Folds::apply_last, crate::proofs::Items::built_none, crate::proofs::Items::built_some), unfolding(crate::specs::Building::apply_all))]
 pub fn build(alloc: Global, acts: Vec<Made>) -> Result<Listed<Dec>, NoMemory>
     ensures { IfOk result (λ items. items ≡ program_of acts.items) }
 {

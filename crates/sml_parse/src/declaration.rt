@@ -1,5 +1,5 @@
 // Acts on declarations and their parts.
-ghost use Rattle.std.specs.Prelude.{◌≡◌, OnOk, ℕ};
+ghost use Rattle.std.specs.Prelude.{◌≡◌, OnOk};
 ghost use Rattle.sml_parse.specs.Building.{apply_dec};
 ghost use Rattle.sml_grammar.specs.declared.act.DecAct.{DecAct};
 
@@ -12,8 +12,8 @@ use sml_syntax::{
 use std::alloc::Global;
 
 #[tactic(auto, unfolding(crate::specs::Building::apply_dec))]
-fn dec_add_bind(values: &mut Values) -> Result<(), NoMemory>
-    ensures { OnOk result ((to : ℕ) → values.new ≡ apply_dec DecAct.AddBind to values.old) }
+fn dec_add_bind(values: &mut Values, to: u64) -> Result<(), NoMemory>
+    ensures { OnOk result (values.new ≡ apply_dec DecAct.AddBind to values.old) }
 {
     let Some(body) = values.take_exp() else {
         return Ok(());
@@ -96,8 +96,8 @@ fn dec_curry(
 }
 
 #[tactic(auto, unfolding(crate::specs::Building::apply_dec))]
-fn dec_add_rec(values: &mut Values, name: Text) -> Result<(), NoMemory>
-    ensures { OnOk result ((to : ℕ) → values.new ≡ apply_dec (DecAct.AddRec name) to values.old) }
+fn dec_add_rec(values: &mut Values, name: Text, to: u64) -> Result<(), NoMemory>
+    ensures { OnOk result (values.new ≡ apply_dec (DecAct.AddRec name) to values.old) }
 {
     let Some(rules) = values.take_rules() else {
         return Ok(());
@@ -124,8 +124,8 @@ fn dec_val_rec(values: &mut Values, from: u64, to: u64) -> Result<(), NoMemory>
 }
 
 #[tactic(auto, unfolding(crate::specs::Building::apply_dec))]
-fn dec_add_var(values: &mut Values, name: Text) -> Result<(), NoMemory>
-    ensures { OnOk result ((to : ℕ) → values.new ≡ apply_dec (DecAct.AddVar name) to values.old) }
+fn dec_add_var(values: &mut Values, name: Text, to: u64) -> Result<(), NoMemory>
+    ensures { OnOk result (values.new ≡ apply_dec (DecAct.AddVar name) to values.old) }
 {
     let Some(names) = values.take_vars() else {
         return Ok(());
@@ -136,8 +136,8 @@ fn dec_add_var(values: &mut Values, name: Text) -> Result<(), NoMemory>
 }
 
 #[tactic(auto, unfolding(crate::specs::Building::apply_dec))]
-fn dec_head(values: &mut Values, name: Text) -> Result<(), NoMemory>
-    ensures { OnOk result ((to : ℕ) → values.new ≡ apply_dec (DecAct.Head name) to values.old) }
+fn dec_head(values: &mut Values, name: Text, to: u64) -> Result<(), NoMemory>
+    ensures { OnOk result (values.new ≡ apply_dec (DecAct.Head name) to values.old) }
 {
     let Some(names) = values.take_vars() else {
         return Ok(());
@@ -146,8 +146,8 @@ fn dec_head(values: &mut Values, name: Text) -> Result<(), NoMemory>
 }
 
 #[tactic(auto, unfolding(crate::specs::Building::apply_dec))]
-fn dec_add_abbrev(values: &mut Values) -> Result<(), NoMemory>
-    ensures { OnOk result ((to : ℕ) → values.new ≡ apply_dec DecAct.AddAbbrev to values.old) }
+fn dec_add_abbrev(values: &mut Values, to: u64) -> Result<(), NoMemory>
+    ensures { OnOk result (values.new ≡ apply_dec DecAct.AddAbbrev to values.old) }
 {
     let Some(ty) = values.take_ty() else {
         return Ok(());
@@ -177,8 +177,8 @@ fn dec_abbrev(values: &mut Values, from: u64, to: u64) -> Result<(), NoMemory>
 }
 
 #[tactic(auto, unfolding(crate::specs::Building::apply_dec))]
-fn dec_con_of(values: &mut Values) -> Result<(), NoMemory>
-    ensures { OnOk result ((to : ℕ) → values.new ≡ apply_dec DecAct.ConOf to values.old) }
+fn dec_con_of(values: &mut Values, to: u64) -> Result<(), NoMemory>
+    ensures { OnOk result (values.new ≡ apply_dec DecAct.ConOf to values.old) }
 {
     let Some(ty) = values.take_ty() else {
         return Ok(());
@@ -190,8 +190,8 @@ fn dec_con_of(values: &mut Values) -> Result<(), NoMemory>
 }
 
 #[tactic(auto, unfolding(crate::specs::Building::apply_dec))]
-fn dec_add_con(values: &mut Values) -> Result<(), NoMemory>
-    ensures { OnOk result ((to : ℕ) → values.new ≡ apply_dec DecAct.AddCon to values.old) }
+fn dec_add_con(values: &mut Values, to: u64) -> Result<(), NoMemory>
+    ensures { OnOk result (values.new ≡ apply_dec DecAct.AddCon to values.old) }
 {
     let Some((name, argument)) = values.take_con() else {
         return Ok(());
@@ -205,8 +205,8 @@ fn dec_add_con(values: &mut Values) -> Result<(), NoMemory>
 }
 
 #[tactic(auto, unfolding(crate::specs::Building::apply_dec))]
-fn dec_add_data(values: &mut Values) -> Result<(), NoMemory>
-    ensures { OnOk result ((to : ℕ) → values.new ≡ apply_dec DecAct.AddData to values.old) }
+fn dec_add_data(values: &mut Values, to: u64) -> Result<(), NoMemory>
+    ensures { OnOk result (values.new ≡ apply_dec DecAct.AddData to values.old) }
 {
     let Some(cons) = values.take_cons() else {
         return Ok(());
@@ -249,8 +249,8 @@ fn dec_exn_def(values: &mut Values, from: u64, to: u64) -> Result<(), NoMemory>
 }
 
 #[tactic(auto, unfolding(crate::specs::Building::apply_dec))]
-fn dec_add_dec(values: &mut Values) -> Result<(), NoMemory>
-    ensures { OnOk result ((to : ℕ) → values.new ≡ apply_dec DecAct.AddDec to values.old) }
+fn dec_add_dec(values: &mut Values, to: u64) -> Result<(), NoMemory>
+    ensures { OnOk result (values.new ≡ apply_dec DecAct.AddDec to values.old) }
 {
     let Some(next) = values.take_dec() else {
         return Ok(());
@@ -306,32 +306,32 @@ pub fn perform_dec(alloc: Global, values: &mut Values, act: DecAct, to: u64) -> 
 {
     match act {
         DecAct::NoBinds => values.push(Val::Dec(DecVal::Binds(Listed::of(Vec::new(alloc))))),
-        DecAct::AddBind => dec_add_bind(values),
+        DecAct::AddBind => dec_add_bind(values, to),
         DecAct::Val(from) => dec_val(values, from, to),
         DecAct::NoRecs => values.push(Val::Dec(DecVal::Recs(Listed::of(Vec::new(alloc))))),
         DecAct::Constrain(from) => dec_constrain(alloc, values, from, to),
         DecAct::AddClause(from) => dec_add_clause(values, from, to),
         DecAct::Curry(from, count) => dec_curry(alloc, values, from, count, to),
-        DecAct::AddRec(name) => dec_add_rec(values, name),
+        DecAct::AddRec(name) => dec_add_rec(values, name, to),
         DecAct::ValRec(from) => dec_val_rec(values, from, to),
         DecAct::NoVars => values.push(Val::Def(DefVal::Vars(Listed::of(Vec::new(alloc))))),
-        DecAct::AddVar(name) => dec_add_var(values, name),
-        DecAct::Head(name) => dec_head(values, name),
+        DecAct::AddVar(name) => dec_add_var(values, name, to),
+        DecAct::Head(name) => dec_head(values, name, to),
         DecAct::NoAbbrevs => values.push(Val::Def(DefVal::Abbrevs(Listed::of(Vec::new(alloc))))),
-        DecAct::AddAbbrev => dec_add_abbrev(values),
+        DecAct::AddAbbrev => dec_add_abbrev(values, to),
         DecAct::Abbrev(from) => dec_abbrev(values, from, to),
         DecAct::NoCons => values.push(Val::Def(DefVal::Cons(Listed::of(Vec::new(alloc))))),
         DecAct::Con(name) => values.push(Val::Def(DefVal::Con(name, None))),
-        DecAct::ConOf => dec_con_of(values),
-        DecAct::AddCon => dec_add_con(values),
+        DecAct::ConOf => dec_con_of(values, to),
+        DecAct::AddCon => dec_add_con(values, to),
         DecAct::NoDatas => values.push(Val::Def(DefVal::Datas(Listed::of(Vec::new(alloc))))),
-        DecAct::AddData => dec_add_data(values),
+        DecAct::AddData => dec_add_data(values, to),
         DecAct::DataDef(from) => dec_data_def(values, from, to),
         DecAct::ExnDef(from) => dec_exn_def(values, from, to),
         DecAct::NoDecs => values.push(Val::Dec(DecVal::Many(Listed::of(Vec::new(alloc))))),
-        DecAct::AddDec => dec_add_dec(values),
+        DecAct::AddDec => dec_add_dec(values, to),
         DecAct::Local(from) => dec_local(values, from, to),
         DecAct::It(from) => dec_it(alloc, values, from, to),
-        DecAct::Item(_) => dec_add_dec(values),
+        DecAct::Item(_) => dec_add_dec(values, to),
     }
 }

@@ -1,7 +1,9 @@
 // Acts on expressions, rules and pieces.
-ghost use Rattle.std.specs.Prelude.{◌≡◌, OnOk, ℕ};
+ghost use Rattle.std.specs.Prelude.{◌≡◌, IfOk, OnOk};
 ghost use Rattle.sml_parse.specs.Building.{apply_exp};
 ghost use Rattle.sml_grammar.specs.declared.act.ExpAct.{ExpAct};
+ghost use Rattle.sml_syntax.specs.Nodes.{infix_exp};
+ghost use Rattle.sml_syntax.specs.declared.tree.ExpForm.{ExpForm};
 
 use crate::value::{ExpVal, Val, Values};
 use sml_grammar::ExpAct;
@@ -9,8 +11,8 @@ use sml_syntax::{Boxed, Exp, ExpForm, Listed, NoMemory, Piece, Rule, Span, Text}
 use std::alloc::Global;
 
 #[tactic(auto, unfolding(crate::specs::Building::apply_exp))]
-fn exp_first(alloc: Global, values: &mut Values) -> Result<(), NoMemory>
-    ensures { OnOk result ((to : ℕ) → values.new ≡ apply_exp ExpAct.First to values.old) }
+fn exp_first(alloc: Global, values: &mut Values, to: u64) -> Result<(), NoMemory>
+    ensures { OnOk result (values.new ≡ apply_exp ExpAct.First to values.old) }
 {
     let Some(first) = values.take_exp() else {
         return Ok(());
@@ -21,8 +23,8 @@ fn exp_first(alloc: Global, values: &mut Values) -> Result<(), NoMemory>
 }
 
 #[tactic(auto, unfolding(crate::specs::Building::apply_exp))]
-fn exp_push(values: &mut Values) -> Result<(), NoMemory>
-    ensures { OnOk result ((to : ℕ) → values.new ≡ apply_exp ExpAct.Push to values.old) }
+fn exp_push(values: &mut Values, to: u64) -> Result<(), NoMemory>
+    ensures { OnOk result (values.new ≡ apply_exp ExpAct.Push to values.old) }
 {
     let Some(next) = values.take_exp() else {
         return Ok(());
@@ -103,17 +105,8 @@ fn exp_infix(alloc: Global, values: &mut Values, from: u64, to: u64) -> Result<(
     let Some(left) = values.take_exp() else {
         return Ok(());
     };
-    let mut sides = Vec::new(alloc);
-    sides.push(left)?;
-    sides.push(right)?;
-    let both = Exp {
-        span: Span { from, to },
-        form: ExpForm::Tuple(Listed::of(sides)),
-    };
-    values.push(Val::Exp(ExpVal::One(Exp {
-        span: Span { from, to },
-        form: ExpForm::App(Boxed::new(alloc, operator)?, Boxed::new(alloc, both)?),
-    })))
+    let exp = infixed(alloc, Span { from, to }, operator, left, right)?;
+    values.push(Val::Exp(ExpVal::One(exp)))
 }
 
 #[tactic(auto, unfolding(crate::specs::Building::apply_exp))]
@@ -206,13 +199,10 @@ fn exp_if(alloc: Global, values: &mut Values, from: u64, to: u64) -> Result<(), 
     let Some(test) = values.take_exp() else {
         return Ok(());
     };
+    let form = choice(alloc, test, chosen, otherwise)?;
     values.push(Val::Exp(ExpVal::One(Exp {
         span: Span { from, to },
-        form: ExpForm::If(
-            Boxed::new(alloc, test)?,
-            Boxed::new(alloc, chosen)?,
-            Boxed::new(alloc, otherwise)?,
-        ),
+        form,
     })))
 }
 
@@ -262,8 +252,8 @@ fn exp_let(values: &mut Values, from: u64, to: u64) -> Result<(), NoMemory>
 }
 
 #[tactic(auto, unfolding(crate::specs::Building::apply_exp))]
-fn exp_add_rule(values: &mut Values) -> Result<(), NoMemory>
-    ensures { OnOk result ((to : ℕ) → values.new ≡ apply_exp ExpAct.AddRule to values.old) }
+fn exp_add_rule(values: &mut Values, to: u64) -> Result<(), NoMemory>
+    ensures { OnOk result (values.new ≡ apply_exp ExpAct.AddRule to values.old) }
 {
     let Some(body) = values.take_exp() else {
         return Ok(());
@@ -280,8 +270,8 @@ fn exp_add_rule(values: &mut Values) -> Result<(), NoMemory>
 }
 
 #[tactic(auto, unfolding(crate::specs::Building::apply_exp))]
-fn exp_plain(values: &mut Values, text: Text) -> Result<(), NoMemory>
-    ensures { OnOk result ((to : ℕ) → values.new ≡ apply_exp (ExpAct.Plain text) to values.old) }
+fn exp_plain(values: &mut Values, text: Text, to: u64) -> Result<(), NoMemory>
+    ensures { OnOk result (values.new ≡ apply_exp (ExpAct.Plain text) to values.old) }
 {
     let Some(pieces) = values.take_pieces() else {
         return Ok(());
@@ -292,8 +282,8 @@ fn exp_plain(values: &mut Values, text: Text) -> Result<(), NoMemory>
 }
 
 #[tactic(auto, unfolding(crate::specs::Building::apply_exp))]
-fn exp_empty_plain(alloc: Global, values: &mut Values) -> Result<(), NoMemory>
-    ensures { OnOk result ((to : ℕ) → values.new ≡ apply_exp ExpAct.EmptyPlain to values.old) }
+fn exp_empty_plain(alloc: Global, values: &mut Values, to: u64) -> Result<(), NoMemory>
+    ensures { OnOk result (values.new ≡ apply_exp ExpAct.EmptyPlain to values.old) }
 {
     let Some(pieces) = values.take_pieces() else {
         return Ok(());
@@ -304,8 +294,8 @@ fn exp_empty_plain(alloc: Global, values: &mut Values) -> Result<(), NoMemory>
 }
 
 #[tactic(auto, unfolding(crate::specs::Building::apply_exp))]
-fn exp_add_anti(values: &mut Values) -> Result<(), NoMemory>
-    ensures { OnOk result ((to : ℕ) → values.new ≡ apply_exp ExpAct.AddAnti to values.old) }
+fn exp_add_anti(values: &mut Values, to: u64) -> Result<(), NoMemory>
+    ensures { OnOk result (values.new ≡ apply_exp ExpAct.AddAnti to values.old) }
 {
     let Some(body) = values.take_exp() else {
         return Ok(());
@@ -358,8 +348,8 @@ pub fn perform_exp(alloc: Global, values: &mut Values, act: ExpAct, to: u64) -> 
             form: ExpForm::Unit,
         }))),
         ExpAct::NoExps => values.push(Val::Exp(ExpVal::Many(Listed::of(Vec::new(alloc))))),
-        ExpAct::First => exp_first(alloc, values),
-        ExpAct::Push => exp_push(values),
+        ExpAct::First => exp_first(alloc, values, to),
+        ExpAct::Push => exp_push(values, to),
         ExpAct::Tuple(from) => exp_tuple(values, from, to),
         ExpAct::List(from) => exp_list(values, from, to),
         ExpAct::Seq(from) => exp_seq(values, from, to),
@@ -375,11 +365,39 @@ pub fn perform_exp(alloc: Global, values: &mut Values, act: ExpAct, to: u64) -> 
         ExpAct::Fn(from) => exp_fn(values, from, to),
         ExpAct::Let(from) => exp_let(values, from, to),
         ExpAct::NoRules => values.push(Val::Exp(ExpVal::Rules(Listed::of(Vec::new(alloc))))),
-        ExpAct::AddRule => exp_add_rule(values),
+        ExpAct::AddRule => exp_add_rule(values, to),
         ExpAct::NoPieces => values.push(Val::Exp(ExpVal::Pieces(Listed::of(Vec::new(alloc))))),
-        ExpAct::Plain(text) => exp_plain(values, text),
-        ExpAct::EmptyPlain => exp_empty_plain(alloc, values),
-        ExpAct::AddAnti => exp_add_anti(values),
+        ExpAct::Plain(text) => exp_plain(values, text, to),
+        ExpAct::EmptyPlain => exp_empty_plain(alloc, values, to),
+        ExpAct::AddAnti => exp_add_anti(values, to),
         ExpAct::Quote(from) => exp_quote(values, from, to),
     }
+}
+
+/// An operator applied to its two sides.
+fn infixed(alloc: Global, span: Span, operator: Exp, left: Exp, right: Exp) -> Result<Exp, NoMemory>
+    ensures { IfOk result (λ exp. exp ≡ infix_exp span operator left right) }
+{
+    let mut sides = Vec::new(alloc);
+    sides.push(left)?;
+    sides.push(right)?;
+    let both = Exp {
+        span,
+        form: ExpForm::Tuple(Listed::of(sides)),
+    };
+    Ok(Exp {
+        span,
+        form: ExpForm::App(Boxed::new(alloc, operator)?, Boxed::new(alloc, both)?),
+    })
+}
+
+/// The form of a choice.
+fn choice(alloc: Global, test: Exp, chosen: Exp, otherwise: Exp) -> Result<ExpForm, NoMemory>
+    ensures { IfOk result (λ form. form ≡ ExpForm.If test chosen otherwise) }
+{
+    Ok(ExpForm::If(
+        Boxed::new(alloc, test)?,
+        Boxed::new(alloc, chosen)?,
+        Boxed::new(alloc, otherwise)?,
+    ))
 }

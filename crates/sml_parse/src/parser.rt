@@ -45,7 +45,7 @@ impl From<NoMemory> for ParseRefusal {
 }
 
 /// The tree of tokens.
-#[tactic(auto, unfolding(crate::specs::Parsed::parsed))]
+#[tactic(auto, using(crate::proofs::Parsed::unexpected, crate::proofs::Parsed::unsupported, crate::proofs::Parsed::too_deep, crate::proofs::Parsed::built))]
 pub fn parse(alloc: Global, tokens: &[Token]) -> Result<Program, ParseRefusal>
     ensures { Answers result (parsed tokens.now) }
 {

@@ -1,5 +1,5 @@
 // Acts on patterns.
-ghost use Rattle.std.specs.Prelude.{◌≡◌, ◌∷◌, [], IfOk, OnOk, ℕ};
+ghost use Rattle.std.specs.Prelude.{◌≡◌, ◌∷◌, [], IfOk, OnOk};
 ghost use Rattle.sml_parse.specs.Building.{apply_pat};
 ghost use Rattle.sml_grammar.specs.declared.act.PatAct.{PatAct};
 
@@ -9,8 +9,8 @@ use sml_syntax::{Boxed, Listed, NoMemory, Pat, PatForm, Span, Text};
 use std::alloc::Global;
 
 #[tactic(auto, unfolding(crate::specs::Building::apply_pat))]
-fn pat_first(alloc: Global, values: &mut Values) -> Result<(), NoMemory>
-    ensures { OnOk result ((to : ℕ) → values.new ≡ apply_pat PatAct.First to values.old) }
+fn pat_first(alloc: Global, values: &mut Values, to: u64) -> Result<(), NoMemory>
+    ensures { OnOk result (values.new ≡ apply_pat PatAct.First to values.old) }
 {
     let Some(first) = values.take_pat() else {
         return Ok(());
@@ -21,8 +21,8 @@ fn pat_first(alloc: Global, values: &mut Values) -> Result<(), NoMemory>
 }
 
 #[tactic(auto, unfolding(crate::specs::Building::apply_pat))]
-fn pat_push(values: &mut Values) -> Result<(), NoMemory>
-    ensures { OnOk result ((to : ℕ) → values.new ≡ apply_pat PatAct.Push to values.old) }
+fn pat_push(values: &mut Values, to: u64) -> Result<(), NoMemory>
+    ensures { OnOk result (values.new ≡ apply_pat PatAct.Push to values.old) }
 {
     let Some(next) = values.take_pat() else {
         return Ok(());
@@ -137,8 +137,8 @@ fn pat_pair(alloc: Global, values: &mut Values, from: u64, to: u64) -> Result<()
 }
 
 #[tactic(auto, unfolding(crate::specs::Building::apply_pat))]
-fn pat_tupled(values: &mut Values) -> Result<(), NoMemory>
-    ensures { OnOk result ((to : ℕ) → values.new ≡ apply_pat PatAct.Tupled to values.old) }
+fn pat_tupled(values: &mut Values, to: u64) -> Result<(), NoMemory>
+    ensures { OnOk result (values.new ≡ apply_pat PatAct.Tupled to values.old) }
 {
     let Some(pats) = values.take_pats() else {
         return Ok(());
@@ -177,15 +177,15 @@ pub fn perform_pat(alloc: Global, values: &mut Values, act: PatAct, to: u64) -> 
             form: PatForm::Name(name),
         }))),
         PatAct::NoPats => values.push(Val::Pat(PatVal::Many(Listed::of(Vec::new(alloc))))),
-        PatAct::First => pat_first(alloc, values),
-        PatAct::Push => pat_push(values),
+        PatAct::First => pat_first(alloc, values, to),
+        PatAct::Push => pat_push(values, to),
         PatAct::Tuple(from) => pat_tuple(values, from, to),
         PatAct::List(from) => pat_list(values, from, to),
         PatAct::Con(from) => pat_con(alloc, values, from, to),
         PatAct::Cons(from) => pat_cons(alloc, values, from, to),
         PatAct::Typed(from) => pat_typed(alloc, values, from, to),
         PatAct::Pair(from) => pat_pair(alloc, values, from, to),
-        PatAct::Tupled => pat_tupled(values),
+        PatAct::Tupled => pat_tupled(values, to),
     }
 }
 

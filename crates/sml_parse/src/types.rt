@@ -1,5 +1,5 @@
 // Acts on types.
-ghost use Rattle.std.specs.Prelude.{◌≡◌, OnOk, ℕ};
+ghost use Rattle.std.specs.Prelude.{◌≡◌, OnOk};
 ghost use Rattle.sml_parse.specs.Building.{apply_ty};
 ghost use Rattle.sml_grammar.specs.declared.act.TyAct.{TyAct};
 
@@ -9,8 +9,8 @@ use sml_syntax::{Boxed, Listed, NoMemory, Span, Text, Ty, TyForm};
 use std::alloc::Global;
 
 #[tactic(auto, unfolding(crate::specs::Building::apply_ty))]
-fn ty_first(alloc: Global, values: &mut Values) -> Result<(), NoMemory>
-    ensures { OnOk result ((to : ℕ) → values.new ≡ apply_ty TyAct.First to values.old) }
+fn ty_first(alloc: Global, values: &mut Values, to: u64) -> Result<(), NoMemory>
+    ensures { OnOk result (values.new ≡ apply_ty TyAct.First to values.old) }
 {
     let Some(first) = values.take_ty() else {
         return Ok(());
@@ -21,8 +21,8 @@ fn ty_first(alloc: Global, values: &mut Values) -> Result<(), NoMemory>
 }
 
 #[tactic(auto, unfolding(crate::specs::Building::apply_ty))]
-fn ty_push(values: &mut Values) -> Result<(), NoMemory>
-    ensures { OnOk result ((to : ℕ) → values.new ≡ apply_ty TyAct.Push to values.old) }
+fn ty_push(values: &mut Values, to: u64) -> Result<(), NoMemory>
+    ensures { OnOk result (values.new ≡ apply_ty TyAct.Push to values.old) }
 {
     let Some(next) = values.take_ty() else {
         return Ok(());
@@ -88,8 +88,8 @@ pub fn perform_ty(alloc: Global, values: &mut Values, act: TyAct, to: u64) -> Re
             form: TyForm::Var(name),
         }))),
         TyAct::NoTys => values.push(Val::Ty(TyVal::Many(Listed::of(Vec::new(alloc))))),
-        TyAct::First => ty_first(alloc, values),
-        TyAct::Push => ty_push(values),
+        TyAct::First => ty_first(alloc, values, to),
+        TyAct::Push => ty_push(values, to),
         TyAct::Con(from, name) => ty_con(values, from, name, to),
         TyAct::Tuple(from) => ty_tuple(values, from, to),
         TyAct::Arrow(from) => ty_arrow(alloc, values, from, to),
