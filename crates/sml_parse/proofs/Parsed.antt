@@ -1,5 +1,5 @@
 -- What the parser answers, by what was found.
-use Rattle.std.proofs.Common.{◌≡◌, ℕ, List, [], Option, Some, None, Result, Ok, Err, ap, sym, ◌∙◌, tt}
+use Rattle.std.proofs.Common.{◌≡◌, ℕ, List, [], Option, Some, None, Result, Ok, Err, ap, sym, ◌∙◌}
 use Rattle.sml_syntax.specs.declared.token.Token.{Token}
 use Rattle.sml_syntax.specs.declared.token.Lack.{Lack}
 use Rattle.sml_syntax.specs.declared.tree.Dec.{Dec}
