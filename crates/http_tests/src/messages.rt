@@ -138,14 +138,14 @@ fn check_cut(rt: &(impl Abort + AllocGlobal), bytes: &str, first: usize, want: &
     let mut lines = Vec::new(rt.alloc());
     let (front, rest) = bytes.as_bytes().split_at(first.min(bytes.len()));
     reader.feed(front).expect(rt, "memory");
-    let mut open = true;
+    let mut more = true;
     for byte in rest {
-        if open {
-            open = ask(rt, &mut lines, &mut reader);
+        if more {
+            more = ask(rt, &mut lines, &mut reader);
         }
         reader.feed(&[*byte]).expect(rt, "memory");
     }
-    if open && ask(rt, &mut lines, &mut reader) && ask(rt, &mut lines, &mut reader) {
+    if more && ask(rt, &mut lines, &mut reader) && ask(rt, &mut lines, &mut reader) {
         ask(rt, &mut lines, &mut reader);
     }
     assert_eq!(rt; lines.as_slice(), want.as_bytes(), "{bytes}");

@@ -2,4 +2,4 @@ use Rattle.std.proofs.Common.{◌≡◌, true, false}
 use Rattle.http_tests.proofs.messages.check_cut.Given as goal
 
 abbrev pub invariant-loop-byte : goal.invariant-loop-byte
-invariant-loop-byte l = l.open ≡ true → l.reader.closed ≡ false
+invariant-loop-byte g l = l.more ≡ true → l.reader.closed ≡ false
