@@ -1,0 +1,9 @@
+//! Tests of HTTP messages, replies and connections.
+#![tactic(auto)]
+
+#[cfg(test)]
+mod connections;
+#[cfg(test)]
+mod messages;
+#[cfg(test)]
+mod replies;
