@@ -100,6 +100,17 @@ IsOfPiece more (ended.BadInput status) = Unit {0}
 IsOfPiece more ended.WriteFault = Unit {0}
 IsOfPiece more ended.NoMemory = Unit {0}
 
+-- the input ended, where these bytes were held
+abbrev pub InputEnds : List ℕ → Ended → Type 0
+InputEnds held ended.AtEnd = held ≡ []
+InputEnds held (ended.Truncated n) = (0 < n) × (n ≡ length held)
+InputEnds held ended.Closed = ⊥
+InputEnds held (ended.BadInput status) = ⊥
+InputEnds held ended.ReadFault = ⊥
+InputEnds held ended.WriteFault = ⊥
+InputEnds held ended.TurnsSpent = ⊥
+InputEnds held ended.NoMemory = ⊥
+
 -- a read gave these bytes
 pub record Gives (more : List ℕ) (old new : LinkState) : Type 0 where
   pub given : new.given ≡ grown old.given more

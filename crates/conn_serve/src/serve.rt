@@ -1,13 +1,14 @@
 // A connection, piece by piece.
-ghost use Rattle.std.specs.Prelude.{◌≡◌, ◌≤◌, ◌<◌, false, length, IfOk, IfErr};
+ghost use Rattle.std.specs.Prelude.{◌≡◌, ◌≤◌, ◌<◌, false, [], length, take, IfOk, IfErr, OnErr};
+ghost use Rattle.outside_world.specs.Told.{Rose, IsUsedUp};
 ghost use Rattle.http_read.specs.Messages.{HasFront, Held};
 ghost use Rattle.conn_serve.specs.Serving.{IsServed, told_by};
-ghost use Rattle.conn_serve.specs.Steps.{PieceGoesOn, PieceEnds};
+ghost use Rattle.conn_serve.specs.Steps.{Gives, InputEnds, PieceGoesOn, PieceEnds};
 
 use crate::Ended;
 use crate::answers::answer_held;
 use http_read::Reader;
-use outside_world::{Answerer, Conn};
+use outside_world::{Answerer, Conn, Failed};
 use std::alloc::Global;
 
 // The most bytes that are read of one connection.
@@ -16,11 +17,30 @@ const MOST_BYTES: u64 = 1 << 40;
 const PIECE: usize = 4096;
 
 // How a connection ends whose input has ended.
-fn end_of_input(reader: &Reader) -> Ended {
+fn end_of_input(reader: &Reader) -> Ended
+    ensures { InputEnds reader.now.held result }
+{
     match reader.held() {
         0 => Ended::AtEnd,
         held => Ended::Truncated(held),
     }
+}
+
+// Reads a piece, of which a front is given.
+fn read_link<L: Conn>(link: &mut L, piece: &mut [u8]) -> Result<usize, Failed>
+    ensures within { IfOk result (λ n. n ≤ length piece.new) }
+    ensures room { length piece.new ≡ length piece.old }
+    ensures ok { IfOk result (λ n. Gives (take n piece.new) (told_by L.given L.left L.read_count L.written L.write_count link.old) (told_by L.given L.left L.read_count L.written L.write_count link.new)) }
+    ensures end { IfOk result (λ n. n ≡ 0 → 0 < length piece.old → IsUsedUp (L.left link.new)) }
+    ensures err { OnErr result (Gives [] (told_by L.given L.left L.read_count L.written L.write_count link.old) (told_by L.given L.left L.read_count L.written L.write_count link.new)) }
+    ensures failed { OnErr result (Rose (L.read_count link.old) (L.read_count link.new)) }
+    ensures count { L.read_count link.old ≤ L.read_count link.new }
+    ensures written { L.written link.new ≡ L.written link.old }
+    ensures writes { L.write_count link.new ≡ L.write_count link.old }
+    ensures lasting { L.lasting link.new ≡ L.lasting link.old }
+    ensures extra { L.is_extra link.new ≡ L.is_extra link.old }
+{
+    link.read(piece)
 }
 
 // Reads a piece and answers the messages that it completes. Answers how many bytes came, or how the connection ends.
@@ -42,13 +62,13 @@ fn serve_piece<L: Conn, A: Answerer>(
     ensures lasting { L.lasting link.new ≡ L.lasting link.old }
     ensures extra { L.is_extra link.new ≡ L.is_extra link.old }
 {
-    match link.read(piece) {
+    match read_link(link, piece) {
         Err(_) => Err(Ended::ReadFault),
         Ok(0) => Err(end_of_input(reader)),
         Ok(n) => {
-            if reader.feed(&piece[..n]).is_err() {
+            let Ok(()) = reader.feed(&piece[..n]) else {
                 return Err(Ended::NoMemory);
-            }
+            };
             answer_held(alloc, reader, link, answerer)?;
             Ok(n)
         }
