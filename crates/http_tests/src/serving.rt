@@ -157,13 +157,13 @@ const CASES: &[(&[&str], &[&str], Ended)] = &[
     ),
 ];
 
-// Heads of so many lines more than the first two and the last, filled up to so many bytes where they have fewer, and
-// what they get.
+// Heads of so many lines more than the first two and the last, filled up to so many bytes before the end of four bytes,
+// and what they get.
 const LIMITS: &[(usize, usize, &str, Ended)] = &[
     (62, 0, HELLO, Ended::AtEnd),
     (63, 0, HEAD, Ended::BadInput(431)),
-    (0, 16384, HELLO, Ended::AtEnd),
-    (0, 16385, HEAD, Ended::BadInput(431)),
+    (0, 16380, HELLO, Ended::AtEnd),
+    (0, 16381, HEAD, Ended::BadInput(431)),
 ];
 
 // The reads of seven bytes from a number to before another, of which one fails, the replies, and how the connection ends.
@@ -220,6 +220,12 @@ fn messages_are_answered_in_order(rt: HostRuntime) {
     }
 }
 
+fn fill(rt: &(impl Abort + AllocGlobal), head: &mut Vec<u8>, size: usize) {
+    for _ in head.len()..size {
+        head.push(b'd').expect(rt, "memory");
+    }
+}
+
 #[test]
 fn heads_have_limits(rt: HostRuntime) {
     for (fields, size, reply, end) in LIMITS {
@@ -228,16 +234,12 @@ fn heads_have_limits(rt: HostRuntime) {
             head.extend_from_slice(b"a: b\r\n").expect(&rt, "memory");
         }
         head.extend_from_slice(b"c: ").expect(&rt, "memory");
-        while head.len() + 4 < *size {
-            head.push(b'd').expect(&rt, "memory");
-        }
+        fill(&rt, &mut head, *size);
         head.extend_from_slice(b"\r\n\r\n").expect(&rt, "memory");
         check(&rt, head.as_slice(), &[7, 1], reply.as_bytes(), *end);
     }
     let mut endless = joined(&rt, &["GET /hello HTTP/1.1\n"]);
-    while endless.len() < 16384 {
-        endless.push(b'd').expect(&rt, "memory");
-    }
+    fill(&rt, &mut endless, 16384);
     check(
         &rt,
         endless.as_slice(),
