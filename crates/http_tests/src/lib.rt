@@ -4,6 +4,10 @@
 #[cfg(test)]
 mod connections;
 #[cfg(test)]
+mod guests;
+#[cfg(test)]
 mod messages;
 #[cfg(test)]
 mod replies;
+#[cfg(test)]
+mod serving;

@@ -3,6 +3,7 @@
 #![tactic(auto)]
 
 mod region_store;
+mod serving;
 
 use std::{env, io};
 
@@ -10,7 +11,8 @@ fn main(rt: HostRuntime) -> io::Result<()> {
     let mut words = env::args(&rt)?;
     let _ = words.next();
     let Some(name) = words.next() else {
-        return region_store::small(&rt);
+        region_store::small(&rt)?;
+        return serving::small(&rt);
     };
     let count: u32 = match words.next() {
         Some(text) => text.parse().unwrap_or(0),
@@ -18,6 +20,8 @@ fn main(rt: HostRuntime) -> io::Result<()> {
     };
     match name.as_str() {
         "region_store" => region_store::timed(&rt, count),
+        "serving" => serving::timed(&rt, count),
+        "serving_bytes" => serving::timed_bytes(&rt, count),
         _ => println!(rt; "no such load: {name}"),
     }
 }
