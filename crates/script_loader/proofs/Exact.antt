@@ -1,5 +1,5 @@
 -- A text is the file of one project at most, or has one first bad line, and never both.
-use Rattle.std.proofs.Common.{◌≡◌, ◌⊎◌, ℕ, ◌+◌, ◌≤◌, ◌<◌, true, false, List, [], ◌∷◌, ◌++◌, length, Option, Some, None, Result, Ok, Err, IfOk, IfErr, refl, ap, sym, ◌∙◌, inl, inr, subst, arith, append_assoc, append-nil, length-append}
+use Rattle.std.proofs.Common.{◌≡◌, ℕ, ◌+◌, ◌<◌, true, false, List, [], ◌∷◌, ◌++◌, length, Result, Ok, Err, IfOk, IfErr, refl, ap, sym, ◌∙◌, inl, inr, subst, arith, append-nil}
 use Rattle.std.proofs.lemmas.Bool.{cases_lt}
 use Rattle.sml_syntax.proofs.Lists.{cons_parts, nil_parts, same_cut, front_of_front}
 use Rattle.script_loader.specs.declared.line.Line.{Line}
@@ -8,8 +8,7 @@ use Rattle.script_loader.specs.declared.project.LineFault.{LineFault}
 use Rattle.script_loader.specs.declared.project.LineFault.TheVariants.{ProjectLine, TwoPaths}
 use Rattle.script_loader.specs.declared.project.ProjectRefusal.{ProjectRefusal}
 use Rattle.script_loader.specs.declared.project.ProjectRefusal.TheVariants as refusal
-use Rattle.script_loader.specs.ProjectFile.{lines_of, is_skipped, IsLine, AreLines, none, skipped, line, may_follow, repeats_path, AreInOrder, IsFault, IsBadLine, IsEmpty, IsFirstBadLine, bad, empty, IsProject, project_of}
-use Rattle.script_loader.specs.Reading.{line_of}
+use Rattle.script_loader.specs.ProjectFile.{is_skipped, IsLine, AreLines, none, skipped, line, may_follow, repeats_path, AreInOrder, IsFault, IsBadLine, IsEmpty, IsFirstBadLine, bad, empty, IsProject, project_of}
 use Rattle.script_loader.specs.Refused.{IsRefusedAs, GivesProject, GivesRefusal}
 use Rattle.script_loader.proofs.LineLaws.{line_is}
 

@@ -6,10 +6,10 @@ use Rattle.std.specs.Str.{bytes_eq}
 use Rattle.std.proofs.lemmas.Slice.Eq.{bytes_eq-Decides}
 use Rattle.script_loader.specs.declared.line.Line.{Line}
 use Rattle.script_loader.specs.declared.line.Line.TheVariants.{Header, Library, Script, Database, Budget, Pages}
-use Rattle.script_loader.specs.Names.{is_path, is_path_byte, is_file_name, is_database_name, is_count, number_after, begins_with_slash}
+use Rattle.script_loader.specs.Names.{is_path, is_path_byte, is_file_name, is_database_name, is_count, number_after}
 use Rattle.script_loader.specs.ProjectFile.{IsLine}
 use Rattle.script_loader.specs.Reading.{after, by_word, library_of, script_at, script_of, database_of, count_of, budget_line, pages_line, path_split, line_of}
-use Rattle.script_loader.proofs.Options.{chosen, split_and, after_is, after-append}
+use Rattle.script_loader.proofs.Options.{chosen, split_and, after_is}
 
 -- from the front, to what it is
 

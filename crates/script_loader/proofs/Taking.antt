@@ -1,13 +1,12 @@
 -- The lines of a text, taken one by one.
-use Rattle.std.proofs.Common.{◌≡◌, ◌⊎◌, ℕ, ◌+◌, Bool, true, false, List, [], ◌∷◌, ◌++◌, length, Option, Some, None, refl, ap, sym, ◌∙◌, inl, inr, subst, arith, append_assoc, append-nil, length-append}
+use Rattle.std.proofs.Common.{◌≡◌, ◌⊎◌, ℕ, ◌+◌, true, false, List, [], ◌∷◌, ◌++◌, length, Some, None, refl, ap, sym, ◌∙◌, inl, inr, subst, arith, append_assoc, append-nil, length-append}
 use Rattle.std.specs.Prelude.{◌==◌}
 use Rattle.script_loader.specs.declared.line.Line.{Line}
 use Rattle.script_loader.specs.declared.project.Project.{Project}
-use Rattle.script_loader.specs.declared.project.LineFault.{LineFault}
 use Rattle.script_loader.specs.declared.project.LineFault.TheVariants.{ProjectLine, TwoPaths}
 use Rattle.script_loader.specs.declared.project.ProjectRefusal.{ProjectRefusal}
 use Rattle.script_loader.specs.declared.project.ProjectRefusal.TheVariants as refusal
-use Rattle.script_loader.specs.ProjectFile.{lines_of, is_skipped, IsLine, AreLines, none, skipped, line, may_follow, repeats_path, AreInOrder, IsFault, IsBadLine, IsEmpty, IsFirstBadLine, bad, empty, IsProject, project_of}
+use Rattle.script_loader.specs.ProjectFile.{lines_of, is_skipped, IsLine, AreLines, none, skipped, line, may_follow, repeats_path, AreInOrder, IsFault, bad, empty, IsProject, project_of}
 use Rattle.script_loader.specs.Reading.{line_of}
 use Rattle.script_loader.specs.Refused.{AreGood, TakesLine, skips, adds, IsLineRefusal, IsLinesRefusal, IsRefusedAs, Taken}
 use Rattle.sml_syntax.proofs.Lists.{cons_parts, nil_parts}

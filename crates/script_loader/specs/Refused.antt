@@ -1,5 +1,5 @@
 -- What reading the lines of a project file comes to.
-use Rattle.std.specs.Prelude.{◌≡◌, ◌⊎◌, ℕ, ◌+◌, true, false, List, [], ◌∷◌, ◌++◌, length, Result, Ok, Err}
+use Rattle.std.specs.Prelude.{◌≡◌, ◌⊎◌, ℕ, true, false, List, [], ◌∷◌, ◌++◌, length, Result, Ok, Err}
 use Rattle.script_loader.specs.declared.line.Line.{Line}
 use Rattle.script_loader.specs.declared.project.LineFault.{LineFault}
 use Rattle.script_loader.specs.declared.project.Project.{Project}

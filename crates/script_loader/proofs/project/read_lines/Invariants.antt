@@ -1,4 +1,4 @@
-use Rattle.std.proofs.Common.{◌≡◌, ◌+◌, ◌≤◌, length}
+use Rattle.std.proofs.Common.{◌+◌, ◌≤◌, length}
 use Rattle.script_loader.specs.Refused.{Taken}
 use Rattle.script_loader.proofs.project.read_lines.Given as goal
 
