@@ -5,3 +5,5 @@
 mod outside;
 #[cfg(test)]
 mod pages;
+#[cfg(test)]
+mod projects;
