@@ -160,8 +160,8 @@ pickle_roll x = fold-roll-Desc (Datum → List ℕ) pickle_of_form x
 one_rolled : (y : Layer) → OfDesc (roll-Desc (desc_of y))
 one_rolled y =
     subst (λ test. OneSpelling test (pickle (roll-Desc (desc_of y)))) (sym (has_roll (desc_of y)))
-      (subst (OneSpelling (has_form_of (map-Desc _ _ has_desc (desc_of y)))) (sym (pickle_roll (desc_of y)))
-        (of_forms (map-Desc _ _ has_desc (desc_of y)) (map-Desc _ _ pickle (desc_of y)) (one_layer y)))
+    (subst (OneSpelling (has_form_of (map-Desc _ _ has_desc (desc_of y)))) (sym (pickle_roll (desc_of y)))
+    (of_forms (map-Desc _ _ has_desc (desc_of y)) (map-Desc _ _ pickle (desc_of y)) (one_layer y)))
 
 -- where two pickles of one description begin two equal lists, the data are equal, and what follows them too
 pub one_form : (desc : Desc) (x y : Datum) (u v : List ℕ) → has_desc desc x ≡ true → has_desc desc y ≡ true → pickle desc x ++ u ≡ pickle desc y ++ v → (x ≡ y) × (u ≡ v)

@@ -1,7 +1,9 @@
 // Numbers as in DWARF's unsigned LEB128, in the fewest bytes.
-ghost use Rattle.std.specs.Prelude.{◌≡◌, ◌++◌, OnOk, IfOk};
+ghost use Rattle.std.specs.Prelude.{◌≡◌, ◌++◌, ◌≤◌, true, OnOk, IfOk, IfErr};
 ghost use Rattle.sml_syntax.specs.Pickles as pickles;
 ghost use Rattle.sml_syntax.specs.Pickles.{number_pickle};
+ghost use Rattle.value_pickle.specs.Halting as halting;
+ghost use Rattle.value_pickle.specs.Halting.{Halts, IsNumber, ReadsNumber};
 
 use crate::refusal::Halt;
 use sml_syntax::NoMemory;
@@ -40,17 +42,24 @@ pub(crate) fn push_number(out: &mut Vec<u8>, number: u64) -> Result<(), NoMemory
 }
 
 /// Reads the number at the front.
-pub(crate) fn read_number(bytes: &[u8]) -> Result<(u64, &[u8]), Halt> {
+pub(crate) fn read_number(bytes: &[u8]) -> Result<(u64, &[u8]), Halt>
+    ensures number { IfOk result (λ x. ReadsNumber 9 true bytes.now x.0 x.1.now) }
+    ensures halt { IfErr result (Halts (IsNumber 9 true) bytes.now) }
+{
     read_digits(bytes, 9, true)
 }
 
-/// Reads a number in at most `more + 1` bytes, the lowest seven bits first; only the first byte may be 0.
-fn read_digits(bytes: &[u8], more: u8, first: bool) -> Result<(u64, &[u8]), Halt> {
+/// Reads a number in at most `more + 1` bytes, the lowest seven bits first. Only its first byte may be 0.
+fn read_digits(bytes: &[u8], more: u8, first: bool) -> Result<(u64, &[u8]), Halt>
+    requires { more ≤ 9 }
+    ensures number { IfOk result (λ x. ReadsNumber more first bytes.now x.0 x.1.now) }
+    ensures halt { IfErr result (Halts (IsNumber more first) bytes.now) }
+{
     let [byte, rest @ ..] = bytes else {
         return Err(Halt::Left(0));
     };
     let byte = *byte as u64;
-    if (byte == 0 && !first) || (byte > 1 && more == 0) {
+    if !may_stand(byte, more, first) {
         return Err(Halt::Left(bytes.len()));
     }
     if byte < 128 {
@@ -58,4 +67,11 @@ fn read_digits(bytes: &[u8], more: u8, first: bool) -> Result<(u64, &[u8]), Halt
     }
     let (high, rest) = read_digits(rest, more - 1, false)?;
     Ok((byte - 128 + 128 * high, rest))
+}
+
+/// Whether a number may begin with this byte.
+fn may_stand(byte: u64, more: u8, first: bool) -> bool
+    ensures { result ≡ halting.may_stand more first byte }
+{
+    (first || byte != 0) && (more > 0 || byte < 2)
 }

@@ -1,6 +1,7 @@
-ghost use Rattle.std.specs.Prelude.{◌≡◌, ℕ, IfOk, Err};
+ghost use Rattle.std.specs.Prelude.{◌≡◌, ◌++◌, ◌∷◌, [], ℕ, IfOk, IfErr, Err};
 ghost use Rattle.sml_syntax.specs.declared.datum.Datum as described;
-ghost use Rattle.sml_syntax.specs.Pickles.{IsPickle};
+ghost use Rattle.sml_syntax.specs.Pickles.{IsPickle, bool_pickle};
+ghost use Rattle.value_pickle.specs.Halting.{Halts, HaltsAtFlag, HaltsWhole, IsWhole, Reads, AreItems, ReadsItems, IsCounted, ReadsText};
 ghost use Rattle.value_pickle.specs.Reading.{NoPickle, GivesDatum, GivesPlace};
 
 use crate::numbers::{read_number, unzigzag};
@@ -24,7 +25,10 @@ pub fn read(alloc: Global, desc: &Desc, bytes: &[u8]) -> Result<Datum, PickleRef
 }
 
 /// Reads a datum, with nothing behind it.
-fn read_whole(alloc: Global, desc: &Desc, bytes: &[u8]) -> Result<Datum, Halt> {
+fn read_whole(alloc: Global, desc: &Desc, bytes: &[u8]) -> Result<Datum, Halt>
+    ensures datum { IfOk result (λ x. IsPickle desc.now x bytes.now) }
+    ensures halt { IfErr result (HaltsWhole desc.now bytes.now) }
+{
     let (datum, rest) = read_datum(alloc, desc, bytes)?;
     if !rest.is_empty() {
         return Err(Halt::Left(rest.len()));
@@ -34,7 +38,10 @@ fn read_whole(alloc: Global, desc: &Desc, bytes: &[u8]) -> Result<Datum, Halt> {
 
 /// Reads the datum at the front.
 #[cycle(reading)]
-fn read_datum<'a>(alloc: Global, desc: &Desc, bytes: &'a [u8]) -> Result<(Datum, &'a [u8]), Halt> {
+fn read_datum<'a>(alloc: Global, desc: &Desc, bytes: &'a [u8]) -> Result<(Datum, &'a [u8]), Halt>
+    ensures datum { IfOk result (λ x. Reads desc.now bytes.now x.0 x.1.now) }
+    ensures halt { IfErr result (Halts (IsWhole desc.now) bytes.now) }
+{
     match desc {
         Desc::Int => {
             let (number, rest) = read_number(bytes)?;
@@ -84,7 +91,10 @@ fn read_part<'a>(
     alloc: Global,
     desc: &Boxed<Desc>,
     bytes: &'a [u8],
-) -> Result<(Boxed<Datum>, &'a [u8]), Halt> {
+) -> Result<(Boxed<Datum>, &'a [u8]), Halt>
+    ensures datum { IfOk result (λ x. Reads desc.now bytes.now x.0 x.1.now) }
+    ensures halt { IfErr result (Halts (IsWhole desc.now) bytes.now) }
+{
     let (datum, rest) = read_datum(alloc, desc.get(), bytes)?;
     Ok((Boxed::new(alloc, datum)?, rest))
 }
@@ -95,7 +105,10 @@ fn read_items<'a>(
     alloc: Global,
     desc: &Boxed<Desc>,
     bytes: &'a [u8],
-) -> Result<(Listed<Datum>, &'a [u8]), Halt> {
+) -> Result<(Listed<Datum>, &'a [u8]), Halt>
+    ensures items { IfOk result (λ x. ReadsItems desc.now bytes.now x.0 x.1.now) }
+    ensures halt { IfErr result (Halts (AreItems desc.now) bytes.now) }
+{
     let mut items = Vec::new(alloc);
     let (mut more, mut rest) = read_flag(bytes)?;
     while more {
@@ -107,7 +120,10 @@ fn read_items<'a>(
 }
 
 /// Reads a 0 or a 1.
-fn read_flag(bytes: &[u8]) -> Result<(bool, &[u8]), Halt> {
+fn read_flag(bytes: &[u8]) -> Result<(bool, &[u8]), Halt>
+    ensures flag { IfOk result (λ x. bytes.now ≡ bool_pickle x.0 ++ x.1.now) }
+    ensures halt { IfErr result (HaltsAtFlag bytes.now) }
+{
     match bytes {
         [0, rest @ ..] => Ok((false, rest)),
         [1, rest @ ..] => Ok((true, rest)),
@@ -115,7 +131,10 @@ fn read_flag(bytes: &[u8]) -> Result<(bool, &[u8]), Halt> {
     }
 }
 
-fn read_char(bytes: &[u8]) -> Result<(u8, &[u8]), Halt> {
+fn read_char(bytes: &[u8]) -> Result<(u8, &[u8]), Halt>
+    ensures byte { IfOk result (λ x. bytes.now ≡ x.0 ∷ x.1.now) }
+    ensures halt { IfErr result (λ e. (e ≡ Halt.Left 0) × (bytes.now ≡ [])) }
+{
     match bytes {
         [c, rest @ ..] => Ok((*c, rest)),
         [] => Err(Halt::Left(0)),
@@ -123,7 +142,10 @@ fn read_char(bytes: &[u8]) -> Result<(u8, &[u8]), Halt> {
 }
 
 /// Reads a length, and that many bytes.
-fn read_text(alloc: Global, bytes: &[u8]) -> Result<(Text, &[u8]), Halt> {
+fn read_text(alloc: Global, bytes: &[u8]) -> Result<(Text, &[u8]), Halt>
+    ensures text { IfOk result (λ x. ReadsText bytes.now x.0 x.1.now) }
+    ensures halt { IfErr result (Halts IsCounted bytes.now) }
+{
     let (len, rest) = read_number(bytes)?;
     let len = len as usize;
     if rest.len() < len {
