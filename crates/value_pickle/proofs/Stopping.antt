@@ -99,3 +99,19 @@ stops_at_once C bytes word h some wrong = record {
   begins = h;
   ends = wrong;
 }
+
+-- a word of A, and then one of B
+abbrev pub Seq : Language → Language → Language
+Seq A B w = (a : List ℕ) × (b : List ℕ) × A a × B b × (w ≡ a ++ b)
+
+pub seq_first : (A B : Language) (bytes : List ℕ) (left : ℕ) → IsPrefixFree A → (w : List ℕ) → B w → Stops A bytes left → Stops (Seq A B) bytes left
+seq_first A B bytes left free w word stop =
+    stops_first A (Seq A B) bytes left free (λ v (a, b, first, second, e). (a, b, first, e)) (λ a first. (w, (a, w, first, word, refl))) stop
+
+pub seq_second : (A B : Language) (a bytes : List ℕ) (left : ℕ) → IsPrefixFree A → A a → Stops B bytes left → Stops (Seq A B) (a ++ bytes) left
+seq_second A B a bytes left free word stop =
+    stops_behind B (Seq A B) a bytes left
+      (λ b (c, d, first, second, e).
+        let same = free c a d b first word (sym e)
+        in subst B (same_rest a d b (ap (λ z. z ++ d) (sym same) ∙ sym e)) second)
+      (λ b second. (a, b, word, second, refl)) stop

@@ -1,5 +1,5 @@
-ghost use Rattle.std.specs.Prelude.{◌≡◌};
-ghost use Rattle.sml_syntax.specs.Data.{has_desc};
+ghost use Rattle.std.specs.Prelude.{◌≡◌, ◌^◌, nat_lt};
+ghost use Rattle.sml_syntax.specs.Data.{has_desc, is_64_bits};
 
 use sml_syntax::{Datum, Desc};
 
@@ -8,10 +8,10 @@ pub fn fits(desc: &Desc, datum: &Datum) -> bool
     ensures { result ≡ has_desc desc.now datum.now }
 {
     match (desc, datum) {
-        (Desc::Int, Datum::Int(_)) => true,
+        (Desc::Int, Datum::Int(n)) => is_int(*n),
         (Desc::Bool, Datum::Bool(_)) => true,
-        (Desc::Char, Datum::Char(_)) => true,
-        (Desc::Str, Datum::Str(_)) => true,
+        (Desc::Char, Datum::Char(c)) => is_char(*c),
+        (Desc::Str, Datum::Str(text)) => is_length(text.len()),
         (Desc::Unit, Datum::Unit) => true,
         (Desc::Pair(a, b), Datum::Pair(x, y)) => fits(a.get(), x.get()) && fits(b.get(), y.get()),
         (Desc::Triple(a, b, c), Datum::Triple(x, y, z)) => {
@@ -29,4 +29,25 @@ pub fn fits(desc: &Desc, datum: &Datum) -> bool
         }
         _ => false,
     }
+}
+
+/// Any number of the type is one.
+fn is_int(n: i64) -> bool
+    ensures { result ≡ is_64_bits n }
+{
+    true
+}
+
+/// Any byte is one.
+fn is_char(c: u8) -> bool
+    ensures { result ≡ nat_lt c 256 }
+{
+    true
+}
+
+/// Any length of the type is one of a text.
+fn is_length(len: u64) -> bool
+    ensures { result ≡ nat_lt len (2 ^ 64) }
+{
+    true
 }
