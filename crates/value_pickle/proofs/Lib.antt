@@ -6,3 +6,4 @@ pub mod Stopping
 pub mod Digits
 pub mod OneForm
 pub mod Wholes
+pub mod Places

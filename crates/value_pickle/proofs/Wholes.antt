@@ -423,3 +423,19 @@ pub reads_some : (d a : Desc) (bytes : List ℕ) (x : Datum) (rest last : List �
 reads_some d a bytes x rest last is e reads =
     reads_as (roll-Desc (Desc-F.Opt a)) d (roll-Datum (Datum-F.Opt (Some x))) (datum.Opt (Some x)) bytes last (is ∙ sym (desc.rolls-Opt a)) (datum.rolls-Opt (Some x))
       (reads_of_form (Desc-F.Opt a) (Datum-F.Opt (Some x)) bytes last reads.described (e ∙ ap (λ z. 1 ∷ z) reads.parts))
+
+flag_length : (b : Bool) → length (bool_pickle b) ≡ 1
+flag_length true = refl
+flag_length false = refl
+
+-- an item and the flag behind it leave less
+pub less_left : (d : Desc) (rest : List ℕ) (x : Datum) (behind : List ℕ) (again : Bool) (last : List ℕ) → Reads d rest x behind → behind ≡ bool_pickle again ++ last → length last < length rest
+less_left d rest x behind again last reads e =
+    omega (arith, ap length reads.parts, length-append (pickle d x) behind, ap length e, length-append (bool_pickle again) last, flag_length again)
+
+-- with the description as the code has it
+pub reads_with : (d d' : Desc) (bytes : List ℕ) (x : Datum) (rest : List ℕ) → d ≡ d' → Reads d bytes x rest → Reads d' bytes x rest
+reads_with d d' bytes x rest is reads = subst (λ z. Reads z bytes x rest) is reads
+
+pub halts_with : (d d' : Desc) (bytes : List ℕ) (e : Halt) → d ≡ d' → Halts (IsWhole d) bytes e → Halts (IsWhole d') bytes e
+halts_with d d' bytes e is stop = subst (λ z. Halts (IsWhole z) bytes e) is stop
