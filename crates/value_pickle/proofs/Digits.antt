@@ -70,7 +70,7 @@ may_not more first b h =
       | inr e ↦ let p = both_false (nat_lt 0 more) (nat_lt b 2) e in inr (omega (arith, ltb-false 0 more p.0), ltb-false b 2 p.1)
     ]
 
-above_0 : (b : ℕ) → (b == 0) ≡ false → 0 < b
+pub above_0 : (b : ℕ) → (b == 0) ≡ false → 0 < b
 above_0 zero h = absurd cc
 above_0 (suc b) h = omega arith
 
