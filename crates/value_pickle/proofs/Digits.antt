@@ -102,24 +102,24 @@ never_first : (more : ℕ) (first : Bool) (b : ℕ) (rest : List ℕ) → may_st
 never_first more first b rest wrong (n, below, shortest, e) =
     elim (first_byte more n b rest e) [
       | inl same ↦ elim (may_not more first b wrong) [
-          | inl zero_there ↦ omega (arith, same, zero_there.1, shortest zero_there.0)
-          | inr too_much ↦ omega (arith, same, too_much.1, subst (λ m. n < limit m) too_much.0 below)
-        ]
+        | inl zero_there ↦ omega (arith, same, zero_there.1, shortest zero_there.0)
+        | inr too_much ↦ omega (arith, same, too_much.1, subst (λ m. n < limit m) too_much.0 below)
+      ]
       | inr high ↦ elim (may_not more first b wrong) [
-          | inl zero_there ↦ omega (arith, zero_there.1, high.0)
-          | inr too_much ↦ omega (arith, too_much.0, high.1)
-        ]
+        | inl zero_there ↦ omega (arith, zero_there.1, high.0)
+        | inr too_much ↦ omega (arith, too_much.0, high.1)
+      ]
     ]
 
 pub stops_at_byte : (more : ℕ) (first : Bool) (b : ℕ) (rest : List ℕ) → may_stand more first b ≡ false → Stops (IsNumber more first) (b ∷ rest) (length (b ∷ rest))
 stops_at_byte more first b rest wrong =
     stops_at_once (IsNumber more first) (b ∷ rest) (1 ∷ []) (1, one_is_below more, λ h. omega arith, sym (one_byte more 1 (omega arith))) (omega arith)
-      (λ c tail others same word. never_first more first c others (subst (λ z. may_stand more first z ≡ false) (cons_parts b c rest tail same).0 wrong) word)
+    (λ c tail others same word. never_first more first c others (subst (λ z. may_stand more first z ≡ false) (cons_parts b c rest tail same).0 wrong) word)
 
 pub stops_empty : (more : ℕ) (first : Bool) → Stops (IsNumber more first) [] 0
 stops_empty more first =
     stops_at_once (IsNumber more first) [] (1 ∷ []) (1, one_is_below more, λ h. omega arith, sym (one_byte more 1 (omega arith))) (omega arith)
-      (λ c tail others same word. absurd cc)
+    (λ c tail others same word. absurd cc)
 
 within_limit : (more : ℕ) (b : ℕ) → (more ≡ 0 → b < 2) → b < 128 → b < limit more
 within_limit zero b h below = h refl
@@ -177,7 +177,7 @@ pub reads_last_slice : (more : ℕ) (first : Bool) (bytes : List ℕ) → 1 ≤ 
     → ReadsNumber more first bytes (slice_index_or bytes 0 0) (others bytes)
 reads_last_slice more first bytes h fits below =
     subst (λ z. ReadsNumber more first z (slice_index_or bytes 0 0) (others bytes)) (sym (first_and_rest bytes h))
-      (reads_last more first (slice_index_or bytes 0 0) (others bytes) fits below)
+    (reads_last more first (slice_index_or bytes 0 0) (others bytes) fits below)
 
 -- a digit follows
 more_follow : (more : ℕ) (first : Bool) (b : ℕ) → may_stand more first b ≡ true → 128 ≤ b → more ≡ suc (more - 1)
@@ -191,16 +191,16 @@ pub halts_more : (more : ℕ) (first : Bool) (bytes : List ℕ) (e : Halt) → 1
     → Halts (IsNumber (more - 1) false) (others bytes) e → Halts (IsNumber more first) bytes e
 halts_more more first bytes (halt.Left left) h fits above byte stop =
     subst (λ z. Stops (IsNumber more first) z left) (sym (first_and_rest bytes h))
-      (subst (λ m. Stops (IsNumber m first) (slice_index_or bytes 0 0 ∷ others bytes) left) (sym (more_follow more first (slice_index_or bytes 0 0) fits above))
-        (stops_more (more - 1) first (slice_index_or bytes 0 0) (others bytes) left above byte stop))
+    (subst (λ m. Stops (IsNumber m first) (slice_index_or bytes 0 0 ∷ others bytes) left) (sym (more_follow more first (slice_index_or bytes 0 0) fits above))
+    (stops_more (more - 1) first (slice_index_or bytes 0 0) (others bytes) left above byte stop))
 halts_more more first bytes halt.NoMemory h fits above byte stop = tt
 
 pub reads_more_slice : (more : ℕ) (first : Bool) (bytes rest : List ℕ) (high : ℕ) → 1 ≤ length bytes → may_stand more first (slice_index_or bytes 0 0) ≡ true → 128 ≤ slice_index_or bytes 0 0 → slice_index_or bytes 0 0 < 256
     → ReadsNumber (more - 1) false (others bytes) high rest → ReadsNumber more first bytes (slice_index_or bytes 0 0 - 128 + 128 * high) rest
 reads_more_slice more first bytes rest high h fits above byte reads =
     subst (λ z. ReadsNumber more first z (slice_index_or bytes 0 0 - 128 + 128 * high) rest) (sym (first_and_rest bytes h))
-      (subst (λ m. ReadsNumber m first (slice_index_or bytes 0 0 ∷ others bytes) (slice_index_or bytes 0 0 - 128 + 128 * high) rest) (sym (more_follow more first (slice_index_or bytes 0 0) fits above))
-        (reads_more (more - 1) first (slice_index_or bytes 0 0) (others bytes) rest high above byte reads))
+    (subst (λ m. ReadsNumber m first (slice_index_or bytes 0 0 ∷ others bytes) (slice_index_or bytes 0 0 - 128 + 128 * high) rest) (sym (more_follow more first (slice_index_or bytes 0 0) fits above))
+    (reads_more (more - 1) first (slice_index_or bytes 0 0) (others bytes) rest high above byte reads))
 
 -- ---- writing
 

@@ -7,3 +7,4 @@ pub mod Digits
 pub mod OneForm
 pub mod Wholes
 pub mod Places
+pub mod Entries

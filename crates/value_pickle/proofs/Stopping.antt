@@ -56,9 +56,9 @@ stops_first A C bytes left free parts goes stop =
       some = omega (arith, stop.some, length-append stop.wanting on.0);
       begins = subst C (append_assoc stop.front stop.wanting on.0) on.1;
       ends = λ b tail rest is c.
-        let p = parts (stop.front ++ b ∷ rest) c
-        in let q = longer A stop.front stop.wanting p.0 p.1 rest b free stop.begins p.2 stop.some p.3
-        in stop.ends b tail q.0 is (subst A q.1 p.2);
+          let p = parts (stop.front ++ b ∷ rest) c
+          in let q = longer A stop.front stop.wanting p.0 p.1 rest b free stop.begins p.2 stop.some p.3
+          in stop.ends b tail q.0 is (subst A q.1 p.2);
     }
 
 -- in what follows a part
@@ -111,7 +111,7 @@ seq_first A B bytes left free w word stop =
 pub seq_second : (A B : Language) (a bytes : List ℕ) (left : ℕ) → IsPrefixFree A → A a → Stops B bytes left → Stops (Seq A B) (a ++ bytes) left
 seq_second A B a bytes left free word stop =
     stops_behind B (Seq A B) a bytes left
-      (λ b (c, d, first, second, e).
-        let same = free c a d b first word (sym e)
-        in subst B (same_rest a d b (ap (λ z. z ++ d) (sym same) ∙ sym e)) second)
-      (λ b second. (a, b, word, second, refl)) stop
+    (λ b (c, d, first, second, e).
+    let same = free c a d b first word (sym e)
+    in subst B (same_rest a d b (ap (λ z. z ++ d) (sym same) ∙ sym e)) second)
+    (λ b second. (a, b, word, second, refl)) stop

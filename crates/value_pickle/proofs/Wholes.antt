@@ -66,9 +66,10 @@ some_form Desc-F.Char = (Datum-F.Char 0, refl)
 some_form Desc-F.Str = (Datum-F.Str [], refl)
 some_form Desc-F.Unit = (Datum-F.Unit, refl)
 some_form (Desc-F.Pair a b) = (Datum-F.Pair a.1.1.0 b.1.1.0, ap (λ z. z && has_desc b.0 b.1.1.0) a.1.1.1.described ∙ b.1.1.1.described)
-some_form (Desc-F.Triple a b c) =
-    (Datum-F.Triple a.1.1.0 b.1.1.0 c.1.1.0,
-      ap (λ z. z && (has_desc b.0 b.1.1.0 && has_desc c.0 c.1.1.0)) a.1.1.1.described ∙ ap (λ z. z && has_desc c.0 c.1.1.0) b.1.1.1.described ∙ c.1.1.1.described)
+some_form (Desc-F.Triple a b c) = (
+  Datum-F.Triple a.1.1.0 b.1.1.0 c.1.1.0,
+  ap (λ z. z && (has_desc b.0 b.1.1.0 && has_desc c.0 c.1.1.0)) a.1.1.1.described ∙ ap (λ z. z && has_desc c.0 c.1.1.0) b.1.1.1.described ∙ c.1.1.1.described,
+)
 some_form (Desc-F.Opt a) = (Datum-F.Opt None, refl)
 some_form (Desc-F.List a) = (Datum-F.List [], refl)
 
@@ -89,7 +90,7 @@ BeginsWithFlag C = (b : ℕ) (rest : List ℕ) → C (b ∷ rest) → b ≤ 1
 pub halts_at_flag : (C : Language) (bytes : List ℕ) (e : Halt) → BeginsWithFlag C → C (0 ∷ []) → HaltsAtFlag bytes e → Halts C bytes e
 halts_at_flag C bytes e flag word (is, wrong) =
     subst (Halts C bytes) (sym is)
-      (stops_at_once C bytes (0 ∷ []) word (omega arith) (λ b tail rest same whole. omega (arith, wrong b tail same, flag b rest whole)))
+    (stops_at_once C bytes (0 ∷ []) word (omega arith) (λ b tail rest same whole. omega (arith, wrong b tail same, flag b rest whole)))
 
 -- ---- a text
 
@@ -108,10 +109,16 @@ length_zeros n = length-replicate n 0
 pub halts_in_length : (bytes : List ℕ) (e : Halt) → Halts (IsNumber 9 true) bytes e → Halts IsCounted bytes e
 halts_in_length bytes = halts_by (IsNumber 9 true) IsCounted bytes bytes (λ left stop.
     stops_first (IsNumber 9 true) IsCounted bytes left number_free
-      (λ w counted. (number_within 9 (length counted.0), counted.0, (length counted.0, counted.1, λ f. absurd cc, refl), counted.2))
-      (λ a number. (zeros number.0, (zeros number.0, subst (λ n. n < 2 ^ 64) (sym (length_zeros number.0)) number.1,
-        ap (λ z. z ++ zeros number.0) (number.3 ∙ ap (number_within 9) (sym (length_zeros number.0))))))
-      stop)
+    (λ w counted. (number_within 9 (length counted.0), counted.0, (length counted.0, counted.1, λ f. absurd cc, refl), counted.2))
+    (λ a number. (
+      zeros number.0,
+      (
+        zeros number.0,
+        subst (λ n. n < 2 ^ 64) (sym (length_zeros number.0)) number.1,
+        ap (λ z. z ++ zeros number.0) (number.3 ∙ ap (number_within 9) (sym (length_zeros number.0))),
+      ),
+    ))
+    stop)
 
 pub stops_in_text : (bytes rest : List ℕ) (len : ℕ) → ReadsNumber 9 true bytes len rest → length rest < len → Stops IsCounted bytes 0
 stops_in_text bytes rest len reads h =
@@ -124,8 +131,11 @@ stops_in_text bytes rest len reads h =
       left_is = refl;
       wanting = more;
       some = omega (arith, h, length_zeros (len - length rest));
-      begins = (rest ++ more, subst (λ n. n < 2 ^ 64) (sym whole) reads.below,
-        ap (λ z. z ++ more) reads.parts ∙ append_assoc (number_within 9 len) rest more ∙ ap (λ n. number_within 9 n ++ (rest ++ more)) (sym whole));
+      begins = (
+        rest ++ more,
+        subst (λ n. n < 2 ^ 64) (sym whole) reads.below,
+        ap (λ z. z ++ more) reads.parts ∙ append_assoc (number_within 9 len) rest more ∙ ap (λ n. number_within 9 n ++ (rest ++ more)) (sym whole),
+      );
       ends = λ b tail others same word. absurd cc;
     }
 
@@ -157,7 +167,7 @@ int_on w (n, below, some, e) =
 pub halts_int : (d : Desc) (bytes : List ℕ) (e : Halt) → d ≡ desc.Int → Halts (IsNumber 9 true) bytes e → Halts (IsWhole d) bytes e
 halts_int d bytes e is stop =
     subst (λ z. Halts (IsWhole z) bytes e) (desc.rolls-Int ∙ sym is)
-      (halts_by (IsNumber 9 true) (IsWhole (roll-Desc Desc-F.Int)) bytes bytes (λ left. stops_same (IsNumber 9 true) (IsWhole (roll-Desc Desc-F.Int)) bytes left int_off int_on) e stop)
+    (halts_by (IsNumber 9 true) (IsWhole (roll-Desc Desc-F.Int)) bytes bytes (λ left. stops_same (IsNumber 9 true) (IsWhole (roll-Desc Desc-F.Int)) bytes left int_off int_on) e stop)
 
 flag_of : (x : Bool) (b : ℕ) (rest : List ℕ) → b ∷ rest ≡ bool_pickle x → b ≤ 1
 flag_of true b rest e = omega (arith, (cons_parts b 1 rest [] e).0)
@@ -166,29 +176,29 @@ flag_of false b rest e = omega (arith, (cons_parts b 0 rest [] e).0)
 pub halts_bool : (d : Desc) (bytes : List ℕ) (e : Halt) → d ≡ desc.Bool → HaltsAtFlag bytes e → Halts (IsWhole d) bytes e
 halts_bool d bytes e is stop =
     subst (λ z. Halts (IsWhole z) bytes e) (desc.rolls-Bool ∙ sym is)
-      (halts_at_flag (IsWhole (roll-Desc Desc-F.Bool)) bytes e
-        (λ b rest whole.
-          let f = form_of_whole Desc-F.Bool (b ∷ rest) whole
-          in let p = is_bool f.0 f.1
-          in flag_of p.0 b rest (f.2 ∙ ap (form_pickle Desc-F.Bool) p.1))
-        (whole_of_form Desc-F.Bool (Datum-F.Bool false) (0 ∷ []) refl refl) stop)
+    (halts_at_flag (IsWhole (roll-Desc Desc-F.Bool)) bytes e
+    (λ b rest whole.
+    let f = form_of_whole Desc-F.Bool (b ∷ rest) whole
+    in let p = is_bool f.0 f.1
+    in flag_of p.0 b rest (f.2 ∙ ap (form_pickle Desc-F.Bool) p.1))
+    (whole_of_form Desc-F.Bool (Datum-F.Bool false) (0 ∷ []) refl refl) stop)
 
 pub halts_char : (d : Desc) (bytes : List ℕ) (e : Halt) → d ≡ desc.Char → (e ≡ halt.Left 0) × (bytes ≡ []) → Halts (IsWhole d) bytes e
 halts_char d bytes e is (at_end, none) =
     subst (λ z. Halts (IsWhole z) bytes e) (desc.rolls-Char ∙ sym is)
-      (subst (Halts (IsWhole (roll-Desc Desc-F.Char)) bytes) (sym at_end)
-        (subst (λ z. Stops (IsWhole (roll-Desc Desc-F.Char)) z 0) (sym none)
-          (stops_at_once (IsWhole (roll-Desc Desc-F.Char)) [] (0 ∷ []) (whole_of_form Desc-F.Char (Datum-F.Char 0) (0 ∷ []) refl refl) (omega arith) (λ b tail rest same whole. absurd cc))))
+    (subst (Halts (IsWhole (roll-Desc Desc-F.Char)) bytes) (sym at_end)
+    (subst (λ z. Stops (IsWhole (roll-Desc Desc-F.Char)) z 0) (sym none)
+    (stops_at_once (IsWhole (roll-Desc Desc-F.Char)) [] (0 ∷ []) (whole_of_form Desc-F.Char (Datum-F.Char 0) (0 ∷ []) refl refl) (omega arith) (λ b tail rest same whole. absurd cc))))
 
 pub halts_str : (d : Desc) (bytes : List ℕ) (e : Halt) → d ≡ desc.Str → Halts IsCounted bytes e → Halts (IsWhole d) bytes e
 halts_str d bytes e is stop =
     subst (λ z. Halts (IsWhole z) bytes e) (desc.rolls-Str ∙ sym is)
-      (halts_by IsCounted (IsWhole (roll-Desc Desc-F.Str)) bytes bytes (λ left. stops_same IsCounted (IsWhole (roll-Desc Desc-F.Str)) bytes left
-        (λ w whole.
-          let f = form_of_whole Desc-F.Str w whole
-          in let p = is_str f.0 f.1
-          in (p.0, ltb-true (length p.0) (2 ^ 64) p.2, f.2 ∙ ap (form_pickle Desc-F.Str) p.1))
-        (λ w (text, short, e). whole_of_form Desc-F.Str (Datum-F.Str text) w (lt-ltb (length text) (2 ^ 64) short) e)) e stop)
+    (halts_by IsCounted (IsWhole (roll-Desc Desc-F.Str)) bytes bytes (λ left. stops_same IsCounted (IsWhole (roll-Desc Desc-F.Str)) bytes left
+    (λ w whole.
+    let f = form_of_whole Desc-F.Str w whole
+    in let p = is_str f.0 f.1
+    in (p.0, ltb-true (length p.0) (2 ^ 64) p.2, f.2 ∙ ap (form_pickle Desc-F.Str) p.1))
+    (λ w (text, short, e). whole_of_form Desc-F.Str (Datum-F.Str text) w (lt-ltb (length text) (2 ^ 64) short) e)) e stop)
 
 -- pairs
 
@@ -196,13 +206,18 @@ pair_off : (a b : Desc) (w : List ℕ) → IsWhole (roll-Desc (Desc-F.Pair a b))
 pair_off a b w whole =
     let f = form_of_whole (Desc-F.Pair a b) w whole
     in let p = is_pair (has_desc a) (has_desc b) f.0 f.1
-    in (pickle a p.0, pickle b p.1, (p.0, record { described = p.3; spelled = refl }), (p.1, record { described = p.4; spelled = refl }),
-      f.2 ∙ ap (form_pickle (Desc-F.Pair (pickle a) (pickle b))) p.2)
+    in (
+      pickle a p.0,
+      pickle b p.1,
+      (p.0, record { described = p.3; spelled = refl }),
+      (p.1, record { described = p.4; spelled = refl }),
+      f.2 ∙ ap (form_pickle (Desc-F.Pair (pickle a) (pickle b))) p.2,
+    )
 
 pair_on : (a b : Desc) (w : List ℕ) → Seq (IsWhole a) (IsWhole b) w → IsWhole (roll-Desc (Desc-F.Pair a b)) w
 pair_on a b w (u, v, (x, is_x), (y, is_y), e) =
     whole_of_form (Desc-F.Pair a b) (Datum-F.Pair x y) w (ap (λ z. z && has_desc b y) is_x.described ∙ is_y.described)
-      (e ∙ ap (λ z. z ++ v) is_x.spelled ∙ ap (λ z. pickle a x ++ z) is_y.spelled)
+    (e ∙ ap (λ z. z ++ v) is_x.spelled ∙ ap (λ z. pickle a x ++ z) is_y.spelled)
 
 pair_stops : (a b : Desc) (bytes : List ℕ) (left : ℕ) → Stops (Seq (IsWhole a) (IsWhole b)) bytes left → Stops (IsWhole (roll-Desc (Desc-F.Pair a b))) bytes left
 pair_stops a b bytes left stop = stops_same (Seq (IsWhole a) (IsWhole b)) (IsWhole (roll-Desc (Desc-F.Pair a b))) bytes left (pair_off a b) (pair_on a b) stop
@@ -210,20 +225,20 @@ pair_stops a b bytes left stop = stops_same (Seq (IsWhole a) (IsWhole b)) (IsWho
 pub halts_pair_first : (d a b : Desc) (bytes : List ℕ) (e : Halt) → d ≡ desc.Pair a b → Halts (IsWhole a) bytes e → Halts (IsWhole d) bytes e
 halts_pair_first d a b bytes e is stop =
     subst (λ z. Halts (IsWhole z) bytes e) (desc.rolls-Pair a b ∙ sym is)
-      (halts_by (IsWhole a) (IsWhole (roll-Desc (Desc-F.Pair a b))) bytes bytes
-        (λ left stop. pair_stops a b bytes left (seq_first (IsWhole a) (IsWhole b) bytes left (whole_free a) (some_whole b).0 (some_whole b).1 stop)) e stop)
+    (halts_by (IsWhole a) (IsWhole (roll-Desc (Desc-F.Pair a b))) bytes bytes
+    (λ left stop. pair_stops a b bytes left (seq_first (IsWhole a) (IsWhole b) bytes left (whole_free a) (some_whole b).0 (some_whole b).1 stop)) e stop)
 
 -- behind a part that was read
 read_before : (a : Desc) (bytes : List ℕ) (x : Datum) (rest : List ℕ) (B : Language) (left : ℕ) → Reads a bytes x rest → Stops B rest left → Stops (Seq (IsWhole a) B) bytes left
 read_before a bytes x rest B left reads stop =
     subst (λ z. Stops (Seq (IsWhole a) B) z left) (sym reads.parts)
-      (seq_second (IsWhole a) B (pickle a x) rest left (whole_free a) (x, record { described = reads.described; spelled = refl }) stop)
+    (seq_second (IsWhole a) B (pickle a x) rest left (whole_free a) (x, record { described = reads.described; spelled = refl }) stop)
 
 pub halts_pair_second : (d a b : Desc) (bytes : List ℕ) (x : Datum) (rest : List ℕ) (e : Halt) → d ≡ desc.Pair a b → Reads a bytes x rest → Halts (IsWhole b) rest e → Halts (IsWhole d) bytes e
 halts_pair_second d a b bytes x rest e is reads stop =
     subst (λ z. Halts (IsWhole z) bytes e) (desc.rolls-Pair a b ∙ sym is)
-      (halts_by (IsWhole b) (IsWhole (roll-Desc (Desc-F.Pair a b))) rest bytes
-        (λ left stop. pair_stops a b bytes left (read_before a bytes x rest (IsWhole b) left reads stop)) e stop)
+    (halts_by (IsWhole b) (IsWhole (roll-Desc (Desc-F.Pair a b))) rest bytes
+    (λ left stop. pair_stops a b bytes left (read_before a bytes x rest (IsWhole b) left reads stop)) e stop)
 
 -- triples
 
@@ -234,16 +249,20 @@ triple_off : (a b c : Desc) (w : List ℕ) → IsWhole (roll-Desc (Desc-F.Triple
 triple_off a b c w whole =
     let f = form_of_whole (Desc-F.Triple a b c) w whole
     in let p = is_triple (has_desc a) (has_desc b) (has_desc c) f.0 f.1
-    in (pickle a p.0, pickle b p.1 ++ pickle c p.2, (p.0, record { described = p.4; spelled = refl }),
+    in (
+      pickle a p.0,
+      pickle b p.1 ++ pickle c p.2,
+      (p.0, record { described = p.4; spelled = refl }),
       (pickle b p.1, pickle c p.2, (p.1, record { described = p.5; spelled = refl }), (p.2, record { described = p.6; spelled = refl }), refl),
-      f.2 ∙ ap (form_pickle (Desc-F.Triple (pickle a) (pickle b) (pickle c))) p.3 ∙ append_assoc (pickle a p.0) (pickle b p.1) (pickle c p.2))
+      f.2 ∙ ap (form_pickle (Desc-F.Triple (pickle a) (pickle b) (pickle c))) p.3 ∙ append_assoc (pickle a p.0) (pickle b p.1) (pickle c p.2),
+    )
 
 triple_on : (a b c : Desc) (w : List ℕ) → Three a b c w → IsWhole (roll-Desc (Desc-F.Triple a b c)) w
 triple_on a b c w (u, v, (x, is_x), (s, t, (y, is_y), (z, is_z), e2), e) =
     whole_of_form (Desc-F.Triple a b c) (Datum-F.Triple x y z) w
-      (ap (λ h. h && (has_desc b y && has_desc c z)) is_x.described ∙ ap (λ h. h && has_desc c z) is_y.described ∙ is_z.described)
-      (e ∙ ap (λ h. h ++ v) is_x.spelled ∙ ap (λ h. pickle a x ++ h) (e2 ∙ ap (λ h. h ++ t) is_y.spelled ∙ ap (λ h. pickle b y ++ h) is_z.spelled)
-        ∙ sym (append_assoc (pickle a x) (pickle b y) (pickle c z)))
+    (ap (λ h. h && (has_desc b y && has_desc c z)) is_x.described ∙ ap (λ h. h && has_desc c z) is_y.described ∙ is_z.described)
+    (e ∙ ap (λ h. h ++ v) is_x.spelled ∙ ap (λ h. pickle a x ++ h) (e2 ∙ ap (λ h. h ++ t) is_y.spelled ∙ ap (λ h. pickle b y ++ h) is_z.spelled)
+    ∙ sym (append_assoc (pickle a x) (pickle b y) (pickle c z)))
 
 triple_stops : (a b c : Desc) (bytes : List ℕ) (left : ℕ) → Stops (Three a b c) bytes left → Stops (IsWhole (roll-Desc (Desc-F.Triple a b c))) bytes left
 triple_stops a b c bytes left stop = stops_same (Three a b c) (IsWhole (roll-Desc (Desc-F.Triple a b c))) bytes left (triple_off a b c) (triple_on a b c) stop
@@ -257,23 +276,23 @@ some_two b c =
 pub halts_triple_first : (d a b c : Desc) (bytes : List ℕ) (e : Halt) → d ≡ desc.Triple a b c → Halts (IsWhole a) bytes e → Halts (IsWhole d) bytes e
 halts_triple_first d a b c bytes e is stop =
     subst (λ z. Halts (IsWhole z) bytes e) (desc.rolls-Triple a b c ∙ sym is)
-      (halts_by (IsWhole a) (IsWhole (roll-Desc (Desc-F.Triple a b c))) bytes bytes
-        (λ left stop. triple_stops a b c bytes left (seq_first (IsWhole a) (Seq (IsWhole b) (IsWhole c)) bytes left (whole_free a) (some_two b c).0 (some_two b c).1 stop)) e stop)
+    (halts_by (IsWhole a) (IsWhole (roll-Desc (Desc-F.Triple a b c))) bytes bytes
+    (λ left stop. triple_stops a b c bytes left (seq_first (IsWhole a) (Seq (IsWhole b) (IsWhole c)) bytes left (whole_free a) (some_two b c).0 (some_two b c).1 stop)) e stop)
 
 pub halts_triple_second : (d a b c : Desc) (bytes : List ℕ) (x : Datum) (rest : List ℕ) (e : Halt) → d ≡ desc.Triple a b c → Reads a bytes x rest → Halts (IsWhole b) rest e → Halts (IsWhole d) bytes e
 halts_triple_second d a b c bytes x rest e is reads stop =
     subst (λ z. Halts (IsWhole z) bytes e) (desc.rolls-Triple a b c ∙ sym is)
-      (halts_by (IsWhole b) (IsWhole (roll-Desc (Desc-F.Triple a b c))) rest bytes
-        (λ left stop. triple_stops a b c bytes left (read_before a bytes x rest (Seq (IsWhole b) (IsWhole c)) left reads
-          (seq_first (IsWhole b) (IsWhole c) rest left (whole_free b) (some_whole c).0 (some_whole c).1 stop))) e stop)
+    (halts_by (IsWhole b) (IsWhole (roll-Desc (Desc-F.Triple a b c))) rest bytes
+    (λ left stop. triple_stops a b c bytes left (read_before a bytes x rest (Seq (IsWhole b) (IsWhole c)) left reads
+    (seq_first (IsWhole b) (IsWhole c) rest left (whole_free b) (some_whole c).0 (some_whole c).1 stop))) e stop)
 
 pub halts_triple_third : (d a b c : Desc) (bytes : List ℕ) (x : Datum) (rest : List ℕ) (y : Datum) (last : List ℕ) (e : Halt) → d ≡ desc.Triple a b c → Reads a bytes x rest → Reads b rest y last
     → Halts (IsWhole c) last e → Halts (IsWhole d) bytes e
 halts_triple_third d a b c bytes x rest y last e is reads then_reads stop =
     subst (λ z. Halts (IsWhole z) bytes e) (desc.rolls-Triple a b c ∙ sym is)
-      (halts_by (IsWhole c) (IsWhole (roll-Desc (Desc-F.Triple a b c))) last bytes
-        (λ left stop. triple_stops a b c bytes left (read_before a bytes x rest (Seq (IsWhole b) (IsWhole c)) left reads
-          (read_before b rest y last (IsWhole c) left then_reads stop))) e stop)
+    (halts_by (IsWhole c) (IsWhole (roll-Desc (Desc-F.Triple a b c))) last bytes
+    (λ left stop. triple_stops a b c bytes left (read_before a bytes x rest (Seq (IsWhole b) (IsWhole c)) left reads
+    (read_before b rest y last (IsWhole c) left then_reads stop))) e stop)
 
 -- options
 
@@ -288,7 +307,7 @@ opt_flag a b rest whole =
 pub halts_opt_flag : (d a : Desc) (bytes : List ℕ) (e : Halt) → d ≡ desc.Opt a → HaltsAtFlag bytes e → Halts (IsWhole d) bytes e
 halts_opt_flag d a bytes e is stop =
     subst (λ z. Halts (IsWhole z) bytes e) (desc.rolls-Opt a ∙ sym is)
-      (halts_at_flag (IsWhole (roll-Desc (Desc-F.Opt a))) bytes e (opt_flag a) (whole_of_form (Desc-F.Opt a) (Datum-F.Opt None) (0 ∷ []) refl refl) stop)
+    (halts_at_flag (IsWhole (roll-Desc (Desc-F.Opt a))) bytes e (opt_flag a) (whole_of_form (Desc-F.Opt a) (Datum-F.Opt None) (0 ∷ []) refl refl) stop)
 
 opt_off : (a : Desc) (w : List ℕ) → IsWhole (roll-Desc (Desc-F.Opt a)) (1 ∷ w) → IsWhole a w
 opt_off a w whole =
@@ -301,22 +320,22 @@ opt_off a w whole =
 pub halts_opt_value : (d a : Desc) (bytes rest : List ℕ) (e : Halt) → d ≡ desc.Opt a → bytes ≡ 1 ∷ rest → Halts (IsWhole a) rest e → Halts (IsWhole d) bytes e
 halts_opt_value d a bytes rest e is parts stop =
     subst (λ z. Halts (IsWhole z) bytes e) (desc.rolls-Opt a ∙ sym is)
-      (subst (λ z. Halts (IsWhole (roll-Desc (Desc-F.Opt a))) z e) (sym parts)
-        (halts_by (IsWhole a) (IsWhole (roll-Desc (Desc-F.Opt a))) rest (1 ∷ rest)
-          (λ left stop. stops_behind (IsWhole a) (IsWhole (roll-Desc (Desc-F.Opt a))) (1 ∷ []) rest left (opt_off a)
-            (λ w (x, is_x). whole_of_form (Desc-F.Opt a) (Datum-F.Opt (Some x)) (1 ∷ w) is_x.described (ap (λ z. 1 ∷ z) is_x.spelled)) stop) e stop))
+    (subst (λ z. Halts (IsWhole (roll-Desc (Desc-F.Opt a))) z e) (sym parts)
+    (halts_by (IsWhole a) (IsWhole (roll-Desc (Desc-F.Opt a))) rest (1 ∷ rest)
+    (λ left stop. stops_behind (IsWhole a) (IsWhole (roll-Desc (Desc-F.Opt a))) (1 ∷ []) rest left (opt_off a)
+    (λ w (x, is_x). whole_of_form (Desc-F.Opt a) (Datum-F.Opt (Some x)) (1 ∷ w) is_x.described (ap (λ z. 1 ∷ z) is_x.spelled)) stop) e stop))
 
 -- lists
 
 pub halts_list : (d a : Desc) (bytes : List ℕ) (e : Halt) → d ≡ desc.List a → Halts (AreItems a) bytes e → Halts (IsWhole d) bytes e
 halts_list d a bytes e is stop =
     subst (λ z. Halts (IsWhole z) bytes e) (desc.rolls-List a ∙ sym is)
-      (halts_by (AreItems a) (IsWhole (roll-Desc (Desc-F.List a))) bytes bytes (λ left. stops_same (AreItems a) (IsWhole (roll-Desc (Desc-F.List a))) bytes left
-        (λ w whole.
-          let f = form_of_whole (Desc-F.List a) w whole
-          in let p = is_list (has_desc a) f.0 f.1
-          in (p.0, p.2, f.2 ∙ ap (form_pickle (Desc-F.List (pickle a))) p.1))
-        (λ w (xs, have, e). whole_of_form (Desc-F.List a) (Datum-F.List xs) w have e)) e stop)
+    (halts_by (AreItems a) (IsWhole (roll-Desc (Desc-F.List a))) bytes bytes (λ left. stops_same (AreItems a) (IsWhole (roll-Desc (Desc-F.List a))) bytes left
+    (λ w whole.
+    let f = form_of_whole (Desc-F.List a) w whole
+    in let p = is_list (has_desc a) f.0 f.1
+    in (p.0, p.2, f.2 ∙ ap (form_pickle (Desc-F.List (pickle a))) p.1))
+    (λ w (xs, have, e). whole_of_form (Desc-F.List a) (Datum-F.List xs) w have e)) e stop)
 
 -- ---- items
 
@@ -347,7 +366,7 @@ behind_items d [] rest left have stop = stop
 behind_items d (x ∷ xs) rest left have stop =
     let h = and_parts (has_desc d x) (all_have d xs) have
     in let one = behind_one d (pickle d x ++ (item_bytes d xs ++ rest)) left
-          (seq_second (IsWhole d) (AreItems d) (pickle d x) (item_bytes d xs ++ rest) left (whole_free d) (x, record { described = h.0; spelled = refl }) (behind_items d xs rest left h.1 stop))
+    (seq_second (IsWhole d) (AreItems d) (pickle d x) (item_bytes d xs ++ rest) left (whole_free d) (x, record { described = h.0; spelled = refl }) (behind_items d xs rest left h.1 stop))
     in subst (λ z. Stops (AreItems d) z left) (sym (append_assoc (1 ∷ pickle d x) (item_bytes d xs) rest) ∙ ap (λ z. z ++ rest) (sym (flat_map-cons (λ y. 1 ∷ pickle d y) x xs))) one
 
 -- items were read, and the flag behind them
@@ -369,33 +388,33 @@ pub items_next : (d : Desc) (bytes : List ℕ) (xs : List Datum) (more : Bool) (
 items_next d bytes xs more rest x behind again last read is reads e = record {
   described = list_all-append (has_desc d) xs (x ∷ []) ∙ ap (λ z. z && (has_desc d x && true)) read.described ∙ ap (λ z. z && true) reads.described;
   parts =
-    read.parts ∙ ap (λ z. item_bytes d xs ++ (bool_pickle z ++ rest)) is ∙ ap (λ z. item_bytes d xs ++ 1 ∷ z) (reads.parts ∙ ap (λ z. pickle d x ++ z) e)
-    ∙ sym (append_assoc (item_bytes d xs) (1 ∷ pickle d x) (bool_pickle again ++ last)) ∙ ap (λ z. z ++ (bool_pickle again ++ last)) (sym (one_more d xs x));
+      read.parts ∙ ap (λ z. item_bytes d xs ++ (bool_pickle z ++ rest)) is ∙ ap (λ z. item_bytes d xs ++ 1 ∷ z) (reads.parts ∙ ap (λ z. pickle d x ++ z) e)
+      ∙ sym (append_assoc (item_bytes d xs) (1 ∷ pickle d x) (bool_pickle again ++ last)) ∙ ap (λ z. z ++ (bool_pickle again ++ last)) (sym (one_more d xs x));
 }
 
 pub items_end : (d : Desc) (bytes : List ℕ) (xs : List Datum) (more : Bool) (rest : List ℕ) → ItemsRead d bytes xs more rest → more ≡ false → ReadsItems d bytes xs rest
 items_end d bytes xs more rest read is = record {
   described = read.described;
   parts =
-    read.parts ∙ ap (λ z. item_bytes d xs ++ (bool_pickle z ++ rest)) is
-    ∙ sym (append_assoc (item_bytes d xs) (0 ∷ []) rest) ∙ ap (λ z. z ++ rest) (sym (items_and_end d xs));
+      read.parts ∙ ap (λ z. item_bytes d xs ++ (bool_pickle z ++ rest)) is
+      ∙ sym (append_assoc (item_bytes d xs) (0 ∷ []) rest) ∙ ap (λ z. z ++ rest) (sym (items_and_end d xs));
 }
 
 stops_after : (d : Desc) (bytes : List ℕ) (xs : List Datum) (more : Bool) (rest : List ℕ) (left : ℕ) → ItemsRead d bytes xs more rest → more ≡ true → Stops (Seq (IsWhole d) (AreItems d)) rest left → Stops (AreItems d) bytes left
 stops_after d bytes xs more rest left read is stop =
     subst (λ z. Stops (AreItems d) z left) (ap (λ z. item_bytes d xs ++ (bool_pickle z ++ rest)) (sym is) ∙ sym read.parts)
-      (behind_items d xs (1 ∷ rest) left read.described (behind_one d rest left stop))
+    (behind_items d xs (1 ∷ rest) left read.described (behind_one d rest left stop))
 
 pub halts_in_item : (d : Desc) (bytes : List ℕ) (xs : List Datum) (more : Bool) (rest : List ℕ) (e : Halt) → ItemsRead d bytes xs more rest → more ≡ true → Halts (IsWhole d) rest e → Halts (AreItems d) bytes e
 halts_in_item d bytes xs more rest e read is stop =
     halts_by (IsWhole d) (AreItems d) rest bytes
-      (λ left stop. stops_after d bytes xs more rest left read is (seq_first (IsWhole d) (AreItems d) rest left (whole_free d) (0 ∷ []) ([], refl, refl) stop)) e stop
+    (λ left stop. stops_after d bytes xs more rest left read is (seq_first (IsWhole d) (AreItems d) rest left (whole_free d) (0 ∷ []) ([], refl, refl) stop)) e stop
 
 pub halts_behind_item : (d : Desc) (bytes : List ℕ) (xs : List Datum) (more : Bool) (rest : List ℕ) (x : Datum) (behind : List ℕ) (e : Halt) → ItemsRead d bytes xs more rest → more ≡ true
     → Reads d rest x behind → HaltsAtFlag behind e → Halts (AreItems d) bytes e
 halts_behind_item d bytes xs more rest x behind e read is reads stop =
     halts_by (AreItems d) (AreItems d) behind bytes
-      (λ left stop. stops_after d bytes xs more rest left read is (read_before d rest x behind (AreItems d) left reads stop)) e (halts_first_flag d behind e stop)
+    (λ left stop. stops_after d bytes xs more rest left read is (read_before d rest x behind (AreItems d) left reads stop)) e (halts_first_flag d behind e stop)
 
 -- ---- what was read
 
@@ -408,21 +427,21 @@ reads_as d d' x x' bytes rest is same reads = subst (λ z. Reads z bytes x' rest
 pub reads_pair : (d a b : Desc) (bytes : List ℕ) (x y : Datum) (rest last : List ℕ) → d ≡ desc.Pair a b → Reads a bytes x rest → Reads b rest y last → Reads d bytes (datum.Pair x y) last
 reads_pair d a b bytes x y rest last is first second =
     reads_as (roll-Desc (Desc-F.Pair a b)) d (roll-Datum (Datum-F.Pair x y)) (datum.Pair x y) bytes last (is ∙ sym (desc.rolls-Pair a b)) (datum.rolls-Pair x y)
-      (reads_of_form (Desc-F.Pair a b) (Datum-F.Pair x y) bytes last (ap (λ z. z && has_desc b y) first.described ∙ second.described)
-        (first.parts ∙ ap (λ z. pickle a x ++ z) second.parts ∙ sym (append_assoc (pickle a x) (pickle b y) last)))
+    (reads_of_form (Desc-F.Pair a b) (Datum-F.Pair x y) bytes last (ap (λ z. z && has_desc b y) first.described ∙ second.described)
+    (first.parts ∙ ap (λ z. pickle a x ++ z) second.parts ∙ sym (append_assoc (pickle a x) (pickle b y) last)))
 
 pub reads_triple : (d a b c : Desc) (bytes : List ℕ) (x y z : Datum) (rest others last : List ℕ) → d ≡ desc.Triple a b c → Reads a bytes x rest → Reads b rest y others → Reads c others z last → Reads d bytes (datum.Triple x y z) last
 reads_triple d a b c bytes x y z rest others last is first second third =
     reads_as (roll-Desc (Desc-F.Triple a b c)) d (roll-Datum (Datum-F.Triple x y z)) (datum.Triple x y z) bytes last (is ∙ sym (desc.rolls-Triple a b c)) (datum.rolls-Triple x y z)
-      (reads_of_form (Desc-F.Triple a b c) (Datum-F.Triple x y z) bytes last
-        (ap (λ h. h && (has_desc b y && has_desc c z)) first.described ∙ ap (λ h. h && has_desc c z) second.described ∙ third.described)
-        (first.parts ∙ ap (λ h. pickle a x ++ h) (second.parts ∙ ap (λ h. pickle b y ++ h) third.parts)
-          ∙ sym (append_assoc (pickle a x) (pickle b y) (pickle c z ++ last)) ∙ sym (append_assoc (pickle a x ++ pickle b y) (pickle c z) last)))
+    (reads_of_form (Desc-F.Triple a b c) (Datum-F.Triple x y z) bytes last
+    (ap (λ h. h && (has_desc b y && has_desc c z)) first.described ∙ ap (λ h. h && has_desc c z) second.described ∙ third.described)
+    (first.parts ∙ ap (λ h. pickle a x ++ h) (second.parts ∙ ap (λ h. pickle b y ++ h) third.parts)
+    ∙ sym (append_assoc (pickle a x) (pickle b y) (pickle c z ++ last)) ∙ sym (append_assoc (pickle a x ++ pickle b y) (pickle c z) last)))
 
 pub reads_some : (d a : Desc) (bytes : List ℕ) (x : Datum) (rest last : List ℕ) → d ≡ desc.Opt a → bytes ≡ 1 ∷ rest → Reads a rest x last → Reads d bytes (datum.Opt (Some x)) last
 reads_some d a bytes x rest last is e reads =
     reads_as (roll-Desc (Desc-F.Opt a)) d (roll-Datum (Datum-F.Opt (Some x))) (datum.Opt (Some x)) bytes last (is ∙ sym (desc.rolls-Opt a)) (datum.rolls-Opt (Some x))
-      (reads_of_form (Desc-F.Opt a) (Datum-F.Opt (Some x)) bytes last reads.described (e ∙ ap (λ z. 1 ∷ z) reads.parts))
+    (reads_of_form (Desc-F.Opt a) (Datum-F.Opt (Some x)) bytes last reads.described (e ∙ ap (λ z. 1 ∷ z) reads.parts))
 
 flag_length : (b : Bool) → length (bool_pickle b) ≡ 1
 flag_length true = refl

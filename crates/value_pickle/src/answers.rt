@@ -2,10 +2,14 @@
 ghost use Rattle.std.specs.Prelude.{◌≡◌, true};
 ghost use Rattle.sml_syntax.specs.CacheCalls.{cache_answer_fits};
 ghost use Rattle.sml_syntax.specs.DatabaseAnswers.{FitsCommand};
-ghost use Rattle.value_pickle.specs.Answers.{FitsCall};
+ghost use Rattle.std.specs.Ordering.{nat_cmp, is_lt};
+ghost use Rattle.std.specs.Cmp.Lexicographic.{slice_cmp};
+ghost use Rattle.value_pickle.specs.Answers as answers;
+ghost use Rattle.value_pickle.specs.Answers.{FitsCall, IsValue};
 
 use crate::fits;
 use sml_syntax::{CacheAns, CacheCall, CacheOp, DbAns, DbCmd, Listed, Text, WebAns, WebCall};
+use std::cmp::Ordering;
 
 /// Whether an answer fits a call, so that a script that waits at the call goes on with it. Takes no memory.
 pub fn answer_fits(call: &WebCall, answer: &WebAns) -> bool
@@ -42,15 +46,18 @@ fn db_answer_fits(command: &DbCmd, answer: &DbAns) -> bool
         (DbCmd::Insert(_, _, _), DbAns::Done | DbAns::NoTable | DbAns::KeyStands) => true,
         (DbCmd::Delete(_, _), DbAns::Done | DbAns::NoTable) => true,
         (DbCmd::One(_, _) | DbCmd::All(_), DbAns::NoTable) => true,
-        (DbCmd::One(_, _), DbAns::Rows(rows)) => is_value(rows),
-        (DbCmd::All(_), DbAns::Rows(rows)) => are_entries(rows),
+        (DbCmd::One(_, _), DbAns::Rows(rows)) => is_value(rows.as_slice()),
+        (DbCmd::All(_), DbAns::Rows(rows)) => are_entries(rows.as_slice()),
         _ => false,
     }
 }
 
-/// No row, or one with one text.
-fn is_value(rows: &Listed<Listed<Text>>) -> bool {
-    match rows.as_slice() {
+/// No row, or one that is one text.
+fn is_value(rows: &[Listed<Text>]) -> bool
+    ensures fits { result ≡ true → IsValue rows.now }
+    ensures fits_where { IsValue rows.now → result ≡ true }
+{
+    match rows {
         [] => true,
         [row] => row.as_slice().len() == 1,
         _ => false,
@@ -58,18 +65,41 @@ fn is_value(rows: &Listed<Listed<Text>>) -> bool {
 }
 
 /// Rows of a key and a value, whose keys ascend.
-fn are_entries(rows: &Listed<Listed<Text>>) -> bool {
-    let mut before: Option<&Text> = None;
-    for row in rows.as_slice() {
-        let [key, _] = row.as_slice() else {
+fn are_entries(rows: &[Listed<Text>]) -> bool
+    ensures { result ≡ answers.are_entries rows.now }
+{
+    let mut rest = rows;
+    while let [row, more @ ..] = rest {
+        if row.as_slice().len() != 2 {
             return false;
-        };
-        if let Some(other) = before {
-            if key.as_bytes() <= other.as_bytes() {
-                return false;
-            }
         }
-        before = Some(key);
+        if !precedes(row.as_slice(), more) {
+            return false;
+        }
+        rest = more;
     }
     true
+}
+
+/// Whether the first text of a row is below that of the next.
+fn precedes(row: &[Text], rows: &[Listed<Text>]) -> bool
+    ensures { result ≡ answers.precedes row.now rows.now }
+{
+    let [key, ..] = row else {
+        return true;
+    };
+    let [next, ..] = rows else {
+        return true;
+    };
+    match next.as_slice() {
+        [other, ..] => is_below(key, other),
+        [] => true,
+    }
+}
+
+/// Whether a text is below another, by their bytes.
+fn is_below(a: &Text, b: &Text) -> bool
+    ensures { result ≡ is_lt (slice_cmp nat_cmp a.now b.now) }
+{
+    a.as_bytes().cmp(b.as_bytes()) == Ordering::Less
 }

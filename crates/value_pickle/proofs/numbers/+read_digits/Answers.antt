@@ -20,22 +20,22 @@ pub returns-in_err-high-clause-halt : goal.returns-in_err-high-clause-halt
 returns-in_err-high-clause-halt t c =
     let p = err_from_is_err_and c.from_residual.result c.from_residual.ensures.1
     in rw (p.1, p.2)
-      (halts_more c.args.more c.args.first c.args.bytes.now c.in_err-high.field-0.0 c.in-len1-up.len_at_least (sym c.may_stand.ensures ∙ c.if-not-may_stand.false)
-        c.if-byte-lt128.false (omega (arith, c.type_inv.bytes 0)) c.in_err-high.ensures.halt)
+    (halts_more c.args.more c.args.first c.args.bytes.now c.in_err-high.field-0.0 c.in-len1-up.len_at_least (sym c.may_stand.ensures ∙ c.if-not-may_stand.false)
+    c.if-byte-lt128.false (omega (arith, c.type_inv.bytes 0)) c.in_err-high.ensures.halt)
 
 pub overflow_mul-result : goal.overflow_mul-result
 overflow_mul-result t c =
     let reads = reads_more_slice c.args.more c.args.first c.args.bytes.now c.in_ok-high.rest.now c.in_ok-high.high c.in-len1-up.len_at_least (sym c.may_stand.ensures ∙ c.if-not-may_stand.false)
-          c.if-byte-lt128.false (omega (arith, c.type_inv.bytes 0)) c.in_ok-high.ensures.number
+    c.if-byte-lt128.false (omega (arith, c.type_inv.bytes 0)) c.in_ok-high.ensures.number
     in omega (arith, reads.below, limit_within c.args.more c.requires)
 
 pub overflow_add-result : goal.overflow_add-result
 overflow_add-result t c =
     let reads = reads_more_slice c.args.more c.args.first c.args.bytes.now c.in_ok-high.rest.now c.in_ok-high.high c.in-len1-up.len_at_least (sym c.may_stand.ensures ∙ c.if-not-may_stand.false)
-          c.if-byte-lt128.false (omega (arith, c.type_inv.bytes 0)) c.in_ok-high.ensures.number
+    c.if-byte-lt128.false (omega (arith, c.type_inv.bytes 0)) c.in_ok-high.ensures.number
     in omega (arith, reads.below, limit_within c.args.more c.requires)
 
 pub returns-clause-number : goal.returns-clause-number
 returns-clause-number t c =
     reads_more_slice c.args.more c.args.first c.args.bytes.now c.in_ok-high.rest.now c.in_ok-high.high c.in-len1-up.len_at_least (sym c.may_stand.ensures ∙ c.if-not-may_stand.false)
-      c.if-byte-lt128.false (omega (arith, c.type_inv.bytes 0)) c.in_ok-high.ensures.number
+    c.if-byte-lt128.false (omega (arith, c.type_inv.bytes 0)) c.in_ok-high.ensures.number

@@ -8,4 +8,4 @@ loop-left-init c = writes_all c.args.out.now.items c.args.number (omega (arith, 
 pub loop-left-preserved : goal.loop-left-preserved
 loop-left-preserved c =
     subst (λ items. Writes c.args.out.now.items items c.args.number (c.loop-left.left / 128)) (sym c.in_ok-push.ensures.items)
-      (writes_digit c.args.out.now.items c.loop-left.out.items c.args.number c.loop-left.left c.loop-left.invariant (omega (arith, c.loop-left-test.true)))
+    (writes_digit c.args.out.now.items c.loop-left.out.items c.args.number c.loop-left.left c.loop-left.invariant (omega (arith, c.loop-left-test.true)))

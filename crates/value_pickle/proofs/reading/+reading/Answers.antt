@@ -103,9 +103,9 @@ read_items-loop-more-smaller t c =
 pub read_items-loop-more-preserved : goal.read_items-loop-more-preserved
 read_items-loop-more-preserved t c =
     subst (λ xs. ItemsRead c.args.desc.now c.args.bytes.now xs c.in_ok-more-2.field-0-0 c.in_ok-more-2.field-0-1.now) (sym c.in_ok-push.ensures.items)
-      (items_next c.args.desc.now c.args.bytes.now c.loop-more.items.items c.loop-more.more c.loop-more.rest.now c.in_ok-item.item c.in_ok-item.behind.now c.in_ok-more-2.field-0-0 c.in_ok-more-2.field-0-1.now c.loop-more.invariant c.loop-more-test.true (reads_with c.get.result.now c.args.desc.now c.loop-more.rest.now c.in_ok-item.item c.in_ok-item.behind.now c.get.ensures c.in_ok-item.ensures.datum) c.in_ok-more-2.ensures.flag)
+    (items_next c.args.desc.now c.args.bytes.now c.loop-more.items.items c.loop-more.more c.loop-more.rest.now c.in_ok-item.item c.in_ok-item.behind.now c.in_ok-more-2.field-0-0 c.in_ok-more-2.field-0-1.now c.loop-more.invariant c.loop-more-test.true (reads_with c.get.result.now c.args.desc.now c.loop-more.rest.now c.in_ok-item.item c.in_ok-item.behind.now c.get.ensures c.in_ok-item.ensures.datum) c.in_ok-more-2.ensures.flag)
 
 pub read_items-returns-clause-items : goal.read_items-returns-clause-items
 read_items-returns-clause-items t c =
     subst (λ xs. ReadsItems c.args.desc.now c.args.bytes.now xs c.loop-more.rest.now) (sym c.of.ensures)
-      (items_end c.args.desc.now c.args.bytes.now c.loop-more.items.items c.loop-more.more c.loop-more.rest.now c.loop-more.invariant c.loop-more-test.false)
+    (items_end c.args.desc.now c.args.bytes.now c.loop-more.items.items c.loop-more.more c.loop-more.rest.now c.loop-more.invariant c.loop-more-test.false)

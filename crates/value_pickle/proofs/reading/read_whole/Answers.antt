@@ -12,4 +12,4 @@ returns-in_err-datum-clause-halt c =
 pub returns-then-not-is_empty-clause-halt : goal.returns-then-not-is_empty-clause-halt
 returns-then-not-is_empty-clause-halt c =
     halts_behind c.args.desc.now c.args.bytes.now c.in_ok-datum.datum c.in_ok-datum.rest.now c.in_ok-datum.ensures.datum
-      (above_0 (length c.in_ok-datum.rest.now) (sym c.is_empty.ensures ∙ c.if-not-is_empty.true))
+    (above_0 (length c.in_ok-datum.rest.now) (sym c.is_empty.ensures ∙ c.if-not-is_empty.true))
