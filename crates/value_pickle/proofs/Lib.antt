@@ -4,6 +4,7 @@ pub mod Slices
 pub mod Items
 pub mod Stopping
 pub mod Digits
+pub mod Shortest
 pub mod OneForm
 pub mod Wholes
 pub mod Places
