@@ -11,6 +11,8 @@ mod data;
 #[cfg(test)]
 mod keepers;
 #[cfg(test)]
+mod pickles;
+#[cfg(test)]
 mod requests;
 #[cfg(test)]
 mod statements;
