@@ -30,7 +30,7 @@ fn call(rt: &(impl Abort + AllocGlobal), number: u8) -> WebCall {
     WebCall::Db(text(rt, "site"), command)
 }
 
-// Rows with `|` between texts and `;` between rows.
+// Rows of texts.
 const ROWS: [&[&[&str]]; 10] = [
     &[],
     &[&["v"]],
