@@ -2,14 +2,11 @@
 use Rattle.std.proofs.Common.{◌≡◌, ℕ, ℤ, List, Bool, true, false, Option, Some, None, refl, ap, sym, ◌∙◌, ◌⊎◌, inl, inr}
 use Rattle.std.specs.Prelude.{◌&&◌, nat_lt}
 use Rattle.std.specs.List.{list_all}
+use Rattle.std.proofs.lemmas.Bool.{and_parts}
 use Rattle.sml_syntax.specs.declared.datum.Datum.{Datum}
 use Rattle.sml_syntax.specs.declared.datum.Datum.TheOpen.{Datum-F}
 use Rattle.sml_syntax.specs.declared.datum.Desc.TheOpen.{Desc-F}
 use Rattle.sml_syntax.specs.Data.{DatumLayer, has_form, is_64_bits, is_text}
-
-pub both : (a b : Bool) → (a && b) ≡ true → (a ≡ true) × (b ≡ true)
-both true b h = (refl, h)
-both false b h = absurd cc
 
 pub is_int : (f : DatumLayer) → has_form Desc-F.Int f ≡ true → (n : ℤ) × (f ≡ Datum-F.Int n) × (is_64_bits n ≡ true)
 is_int (Datum-F.Int n) h = (n, refl, h)
@@ -32,13 +29,13 @@ is_unit Datum-F.Unit h = refl
 is_unit _ h = absurd cc
 
 pub is_pair : (a b : Datum → Bool) (f : DatumLayer) → has_form (Desc-F.Pair a b) f ≡ true → (x : Datum) × (y : Datum) × (f ≡ Datum-F.Pair x y) × (a x ≡ true) × (b y ≡ true)
-is_pair a b (Datum-F.Pair x y) h = let p = both (a x) (b y) h in (x, y, refl, p.0, p.1)
+is_pair a b (Datum-F.Pair x y) h = let p = and_parts (a x) (b y) h in (x, y, refl, p.0, p.1)
 is_pair a b _ h = absurd cc
 
 pub is_triple : (a b c : Datum → Bool) (f : DatumLayer) → has_form (Desc-F.Triple a b c) f ≡ true → (x : Datum) × (y : Datum) × (z : Datum) × (f ≡ Datum-F.Triple x y z) × (a x ≡ true) × (b y ≡ true) × (c z ≡ true)
 is_triple a b c (Datum-F.Triple x y z) h =
-    let p = both (a x) (b y && c z) h
-    in let q = both (b y) (c z) p.1
+    let p = and_parts (a x) (b y && c z) h
+    in let q = and_parts (b y) (c z) p.1
     in (x, y, z, refl, p.0, q.0, q.1)
 is_triple a b c _ h = absurd cc
 

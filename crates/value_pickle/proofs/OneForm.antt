@@ -3,6 +3,7 @@
 use Rattle.std.proofs.Common.{◌≡◌, ℕ, ◌≤◌, List, [], ◌∷◌, ◌++◌, length, Bool, true, false, Some, None, refl, sym, ap, subst, ◌∙◌, inl, inr, append_assoc, arith}
 use Rattle.std.specs.Prelude.{◌&&◌}
 use Rattle.std.specs.List.{list_all}
+use Rattle.std.proofs.lemmas.Bool.{and_parts}
 use Rattle.std.proofs.lemmas.List.{append-nil}
 use Rattle.sml_syntax.proofs.Lists.{cons_parts, same_cut}
 use Rattle.sml_syntax.specs.declared.datum.Datum.{Datum, out-Datum}
@@ -14,7 +15,6 @@ use Rattle.sml_syntax.specs.declared.datum.Desc.TheViews.{roll-Desc}
 use Rattle.sml_syntax.specs.declared.datum.Desc.TheFolds.{ind-Desc, fold-roll-Desc}
 use Rattle.sml_syntax.specs.Data.{DatumLayer, form_of_datum, has_form, has_form_of, has_desc, is_64_bits, is_text}
 use Rattle.sml_syntax.specs.Pickles.{zigzag, number_pickle, bool_pickle, list_pickle, form_pickle, pickle_of_form, pickle}
-use Rattle.value_pickle.proofs.Forms.{both, is_int, is_bool, is_char, is_str, is_unit, is_pair, is_triple, is_opt, is_list}
 use Rattle.value_pickle.proofs.Digits.{one_number, one_integer}
 
 -- data that pass a test have one spelling each, and no spelling begins another
@@ -71,8 +71,8 @@ one_unit _ g u v hf hg e = absurd cc
 
 one_pair : (a b : Datum → Bool) (p q : Datum → List ℕ) → OneSpelling a p → OneSpelling b q → OneForm (Desc-F.Pair a b) (Desc-F.Pair p q)
 one_pair a b p q A B (Datum-F.Pair x y) (Datum-F.Pair x' y') u v hf hg e =
-    let hf = both (a x) (b y) hf
-    in let hg = both (a x') (b y') hg
+    let hf = and_parts (a x) (b y) hf
+    in let hg = and_parts (a x') (b y') hg
     in let first = A x x' (q y ++ u) (q y' ++ v) hf.0 hg.0 (sym (append_assoc (p x) (q y) u) ∙ e ∙ append_assoc (p x') (q y') v)
     in let second = B y y' u v hf.1 hg.1 first.1
     in (ap (λ z. Datum-F.Pair z y) first.0 ∙ ap (λ z. Datum-F.Pair x' z) second.0, second.1)
@@ -84,10 +84,10 @@ regrouped s t r u = append_assoc (s ++ t) r u ∙ append_assoc s t (r ++ u)
 
 one_triple : (a b c : Datum → Bool) (p q r : Datum → List ℕ) → OneSpelling a p → OneSpelling b q → OneSpelling c r → OneForm (Desc-F.Triple a b c) (Desc-F.Triple p q r)
 one_triple a b c p q r A B C (Datum-F.Triple x y z) (Datum-F.Triple x' y' z') u v hf hg e =
-    let hf = both (a x) (b y && c z) hf
-    in let hg = both (a x') (b y' && c z') hg
-    in let hf2 = both (b y) (c z) hf.1
-    in let hg2 = both (b y') (c z') hg.1
+    let hf = and_parts (a x) (b y && c z) hf
+    in let hg = and_parts (a x') (b y' && c z') hg
+    in let hf2 = and_parts (b y) (c z) hf.1
+    in let hg2 = and_parts (b y') (c z') hg.1
     in let first = A x x' (q y ++ (r z ++ u)) (q y' ++ (r z' ++ v)) hf.0 hg.0 (sym (regrouped (p x) (q y) (r z) u) ∙ e ∙ regrouped (p x') (q y') (r z') v)
     in let second = B y y' (r z ++ u) (r z' ++ v) hf2.0 hg2.0 first.1
     in let third = C z z' u v hf2.1 hg2.1 second.1
@@ -111,8 +111,8 @@ one_items a p A [] [] u v hf hg e = (refl, cc)
 one_items a p A [] (y ∷ ys) u v hf hg e = absurd cc
 one_items a p A (x ∷ xs) [] u v hf hg e = absurd cc
 one_items a p A (x ∷ xs) (y ∷ ys) u v hf hg e =
-    let hf = both (a x) (list_all a xs) hf
-    in let hg = both (a y) (list_all a ys) hg
+    let hf = and_parts (a x) (list_all a xs) hf
+    in let hg = and_parts (a y) (list_all a ys) hg
     in let rest = (cons_parts 1 1 ((p x ++ list_pickle p xs) ++ u) ((p y ++ list_pickle p ys) ++ v) e).1
     in let first = A x y (list_pickle p xs ++ u) (list_pickle p ys ++ v) hf.0 hg.0 (sym (append_assoc (p x) (list_pickle p xs) u) ∙ rest ∙ append_assoc (p y) (list_pickle p ys) v)
     in let others = one_items a p A xs ys u v hf.1 hg.1 first.1
