@@ -3,6 +3,8 @@
 #![tactic(auto)]
 
 #[cfg(test)]
+mod answers;
+#[cfg(test)]
 mod calls;
 #[cfg(test)]
 mod copied;
@@ -10,6 +12,8 @@ mod copied;
 mod data;
 #[cfg(test)]
 mod keepers;
+#[cfg(test)]
+mod pickles;
 #[cfg(test)]
 mod requests;
 #[cfg(test)]

@@ -1,0 +1,11 @@
+pub mod Layers
+pub mod Forms
+pub mod Slices
+pub mod Items
+pub mod Stopping
+pub mod Digits
+pub mod Shortest
+pub mod OneForm
+pub mod Wholes
+pub mod Places
+pub mod Entries
