@@ -9,7 +9,11 @@ mod copied;
 #[cfg(test)]
 mod data;
 #[cfg(test)]
+mod generated;
+#[cfg(test)]
 mod keepers;
+#[cfg(test)]
+mod plain_tables;
 #[cfg(test)]
 mod requests;
 #[cfg(test)]
