@@ -1,5 +1,4 @@
 -- What a refusal of the library means for a keeper.
-use Rattle.std.specs.Prelude.{◌≡◌, if◌then◌else◌}
 use Rattle.sqlite.specs.declared.error.Error.{Error}
 use Rattle.sqlite.specs.declared.error.Error.TheVariants as error
 use Rattle.sqlite.specs.declared.error.ErrorCode.TheVariants as code
