@@ -1,8 +1,9 @@
 // A keeper in memory behind a handle, with failures and spares.
+use crate::plain_tables::PlainTables;
 use db_keeper::{Keeper, MapKeeper};
 use db_pool::{Handle, Handled};
 use db_text::read_cmd;
-use sml_syntax::{DbAns, Text};
+use sml_syntax::{DbAns, DbCmd, Text};
 use std::alloc::{AllocError, Global};
 use std::process::Abort;
 use std::test::Fail;
@@ -109,11 +110,15 @@ fn spelled(alloc: Global, answer: &DbAns) -> Result<Vec<u8>, AllocError> {
     Ok(all)
 }
 
+fn command(alloc: Global, statement: &str) -> Result<DbCmd, Fail> {
+    match read_cmd(alloc, statement.as_bytes()) {
+        Ok(cmd) => Ok(cmd),
+        Err(_) => Err("no statement")?,
+    }
+}
+
 fn call<H: Handled>(alloc: Global, handle: &mut H, statement: &str) -> Result<DbAns, Fail> {
-    let Ok(cmd) = read_cmd(alloc, statement.as_bytes()) else {
-        return Err("no statement")?;
-    };
-    Ok(handle.act(&cmd)?)
+    Ok(handle.act(&command(alloc, statement)?)?)
 }
 
 #[test]
@@ -129,35 +134,50 @@ fn calls_have_their_answers(rt: HostRuntime) -> Result<(), Fail> {
     Ok(())
 }
 
+// A command of each kind.
+const SIX: [&str; 6] = [
+    "create table t",
+    "insert into t values ('a','1')",
+    "insert into t values ('b','2')",
+    "delete from t where k = 'a'",
+    "select v from t where k = 'b'",
+    "select k,v from t order by k",
+];
+
+// The keeper fails at its call n. A spare, if there is one, takes its place with no tables; without one the tables are
+// as if the call had not been made.
+fn fails_at(rt: &(impl Abort + AllocGlobal), n: u64, has_spare: bool) -> Result<(), Fail> {
+    let alloc = rt.alloc();
+    let mut keepers: Vec<Box<dyn Keeper + Send>> = Vec::new(alloc);
+    keepers.push(Box::new(alloc, MapKeeper::make(alloc, &[n])?)?)?;
+    if has_spare {
+        keepers.push(Box::new(alloc, MapKeeper::make(alloc, &[9])?)?)?;
+    }
+    let mut handle = Handle::make(alloc, Text::from_bytes(alloc, b"book")?, keepers)?;
+    assert_eq!(rt; handle.name().as_bytes(), b"book".as_slice());
+    let mut plain = PlainTables::new(alloc);
+    for (i, statement) in SIX.iter().enumerate() {
+        let answer = call(alloc, &mut handle, statement)?;
+        if i as u64 == n {
+            assert_eq!(rt; answer, DbAns::Fault(1));
+            assert_eq!(rt; handle.spares(), u64::from(has_spare));
+            assert_eq!(rt; handle.replace(), has_spare);
+            assert_eq!(rt; handle.spares(), 0);
+            if has_spare {
+                plain = PlainTables::new(alloc);
+            }
+        } else {
+            assert_eq!(rt; answer, plain.act(&command(alloc, statement)?)?);
+        }
+    }
+    Ok(())
+}
+
 #[test]
 fn keepers_fail_where_they_were_told(rt: HostRuntime) -> Result<(), Fail> {
-    for n in [0u64, 1, 2, 3, 4, 5] {
-        let alloc = rt.alloc();
-        let mut keepers: Vec<Box<dyn Keeper + Send>> = Vec::new(alloc);
-        keepers.push(Box::new(alloc, MapKeeper::make(alloc, &[n])?)?)?;
-        keepers.push(Box::new(alloc, MapKeeper::make(alloc, &[0])?)?)?;
-        let mut handle = Handle::make(alloc, Text::from_bytes(alloc, b"book")?, keepers)?;
-        assert_eq!(rt; handle.name().as_bytes(), b"book".as_slice());
-        for i in 0u64..6 {
-            let answer = call(rt.alloc(), &mut handle, "create table t")?;
-            assert_eq!(rt; answer == DbAns::Fault(1), i == n);
-        }
-        assert_eq!(rt; handle.spares(), 1);
-        assert_eq!(rt; handle.replace(), true);
-        assert_eq!(rt; handle.spares(), 0);
-        assert_eq!(rt;
-            call(rt.alloc(), &mut handle, "create table t")?,
-            DbAns::Fault(1)
-        );
-        assert_eq!(rt;
-            call(rt.alloc(), &mut handle, "create table t")?,
-            DbAns::Done
-        );
-        assert_eq!(rt; handle.replace(), false);
-        assert_eq!(rt;
-            call(rt.alloc(), &mut handle, "create table t")?,
-            DbAns::TableStands
-        );
+    for n in 0u64..6 {
+        fails_at(&rt, n, true)?;
+        fails_at(&rt, n, false)?;
     }
     Ok(())
 }

@@ -11,9 +11,13 @@ mod copied;
 #[cfg(test)]
 mod data;
 #[cfg(test)]
+mod generated;
+#[cfg(test)]
 mod keepers;
 #[cfg(test)]
 mod pickles;
+#[cfg(test)]
+mod plain_tables;
 #[cfg(test)]
 mod requests;
 #[cfg(test)]

@@ -5,7 +5,7 @@ use std::alloc::{AllocError, Global};
 use std::process::Abort;
 use std::test::Fail;
 
-const STATEMENTS: [(&str, &str); 64] = [
+const STATEMENTS: [(&str, &str); 67] = [
     ("create table notes", "create|notes"),
     ("CREATE TABLE Notes", "create|Notes"),
     (" \t\r\ncreate\ttable\nnotes \r", "create|notes"),
@@ -75,6 +75,12 @@ const STATEMENTS: [(&str, &str); 64] = [
     ("select x from t", "at|7"),
     ("select k,v from t order by k k", "at|29"),
     ("selec", "at|5"),
+    ("drop table book", "at|1"),
+    ("insert into t values ('','b''')", "insert|t||b'"),
+    (
+        "insert into book values ('O''Hara','hi there')",
+        "insert|book|O'Hara|hi there",
+    ),
     ("select k,v from order order by k", "all|order"),
 ];
 

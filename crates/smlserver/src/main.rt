@@ -4,13 +4,18 @@
 ghost use Rattle.std.specs.Prelude.{◌≡◌};
 
 mod clock;
+mod databases;
 mod files;
+#[cfg(test)]
+mod guest_book;
 mod streams;
 #[cfg(test)]
 mod tests;
 mod usage;
 
 use clock::RealClock;
+use db_keeper::{Keeper, MapKeeper};
+use db_sqlite::SqliteKeeper;
 use files::RealFiles;
 use sml_syntax::NoMemory;
 use smlserver_top::run_words;
@@ -25,12 +30,34 @@ use usage::{USAGE, VERSION, print_text};
 /// The status where memory is wanting.
 const NO_MEMORY: u8 = 7;
 
+/// The files of the databases that the words name. No word names one yet.
+const DATABASE_FILES: [&str; 0] = [];
+
 fn main(rt: HostRuntime) -> ExitCode {
-    ExitCode::from(answer_args(&rt).unwrap_or(NO_MEMORY))
+    ExitCode::from(answer(&rt, &DATABASE_FILES).unwrap_or(NO_MEMORY))
+}
+
+// The status, with a keeper for each file of a database: one in memory for `:memory:`, and else one over the file,
+// which fails where that can't be opened.
+fn answer(rt: &HostRuntime, files: &[&str]) -> Result<u8, NoMemory> {
+    let alloc = rt.alloc();
+    let mut keepers: Vec<Box<dyn Keeper + Send>> = Vec::new(alloc);
+    for file in files {
+        if *file == ":memory:" {
+            keepers.push(Box::new(alloc, MapKeeper::make(alloc, &[])?)?)?;
+        } else {
+            let keeper = SqliteKeeper::adopt(alloc, databases::open(rt, file)?)?;
+            keepers.push(Box::new(alloc, keeper)?)?;
+        }
+    }
+    answer_args(rt, keepers)
 }
 
 // The status for the words that the program was started with.
-fn answer_args(rt: &(impl Runtime + AllocGlobal)) -> Result<u8, NoMemory> {
+fn answer_args(
+    rt: &(impl Runtime + AllocGlobal),
+    keepers: Vec<Box<dyn Keeper + Send>>,
+) -> Result<u8, NoMemory> {
     let args = read_args(rt)?;
     let mut words = Vec::new(rt.alloc());
     for arg in &args {
@@ -40,7 +67,7 @@ fn answer_args(rt: &(impl Runtime + AllocGlobal)) -> Result<u8, NoMemory> {
     let status = match words.as_slice() {
         [word] if *word == "--help" => print_text(&mut output, USAGE),
         [word] if *word == "--version" => print_text(&mut output, VERSION),
-        words => run_command(rt, words, &mut output)?,
+        words => run_command(rt, words, &mut output, keepers)?,
     };
     Ok(output.finish(status))
 }
@@ -55,11 +82,12 @@ fn read_args(rt: &(impl Env + AllocGlobal)) -> Result<Vec<String>, NoMemory> {
 }
 
 // Runs a command over the files, the input and the clock of the system. Each command that reads files names
-// its project second.
+// its project second. No command asks a keeper yet.
 fn run_command<R: Runtime + AllocGlobal, W: Write + Drop>(
     rt: &R,
     words: &[&str],
     output: &mut StreamSink<W>,
+    _keepers: Vec<Box<dyn Keeper + Send>>,
 ) -> Result<u8, NoMemory> {
     let project = words.get(1).copied().unwrap_or("");
     let mut files = RealFiles::make(rt, rt.alloc(), project);
