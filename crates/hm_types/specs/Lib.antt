@@ -1,0 +1,7 @@
+pub mod Classes
+pub mod Solving
+pub mod Joining
+pub mod Asking
+pub mod Searching
+pub mod Copying
+pub mod Kept
