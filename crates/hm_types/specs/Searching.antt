@@ -45,3 +45,16 @@ pub record IsPath (parts : List ℕ) (nodes : List Node) (marks : List ℕ) (flo
 unfoldable pub unseen : ℕ → List ℕ → ℕ
 unseen floor [] = 0
 unseen floor (m ∷ marks) = (if ltb m floor then 1 else 0) + unseen floor marks
+
+abbrev pub Stamped : ℕ → List ℕ → ℕ → Type 0
+Stamped n marks stamp = (length marks ≡ n) × ((c : ℕ) → mark_at marks c ≤ stamp)
+
+-- no assignment respects the nodes
+abbrev pub IsEndless : List ℕ → List Node → Type 0
+IsEndless parts nodes = (s : Assign) → Respects parts nodes s → ⊥
+
+-- the listed classes have numbers, and those with numbers have their parts numbered lower, or older
+pub record Searched (parts : List ℕ) (nodes : List Node) (asked : List Asked) (marks : List ℕ) (floor : ℕ) (changed : List ℕ) : Type 0 where
+  pub falls : (c d : ℕ) → floor < mark_at marks c → Child parts (at nodes c) d →
+      ((asked_at asked d).birth < (asked_at asked c).birth) ⊎ ((floor < mark_at marks d) × (mark_at marks d < mark_at marks c))
+  pub all : (c : ℕ) → IsIn c changed → floor < mark_at marks c

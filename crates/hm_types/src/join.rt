@@ -13,6 +13,7 @@ pub(crate) fn root_of(parts: &[u32], nodes: &[Node], class: u32) -> u32
     requires within { class < length nodes.now }
     ensures within { result ≤ class }
     ensures stands { Stands nodes.now class result }
+    ensures last { IsLink (at nodes.now result) ≡ false }
 {
     let _parts = parts;
     let mut found = class;

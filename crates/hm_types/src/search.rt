@@ -1,12 +1,21 @@
 // Looks for a type that holds itself, below the classes that were joined.
-ghost use Rattle.std.specs.Prelude.{◌≡◌, ◌+◌, ◌∷◌, [], ◌++◌, ◌<◌, ◌≤◌, ℕ, length, true, false, IfOk, Err};
+ghost use Rattle.std.specs.Prelude.{◌≡◌, ◌+◌, ◌∷◌, [], ◌<◌, ◌≤◌, ℕ, length, true, false, IfOk, IfSome, IfNone};
+ghost use Rattle.hm_types.specs.Classes.{at, asked_at, Respects};
+ghost use Rattle.hm_types.specs.Joining.{IsFine, Within};
+ghost use Rattle.hm_types.specs.Searching.{Child, IsReady, Numbered, Searched, Stamped, IsPath, IsEndless, mark_at};
 
 use crate::{Asked, Node};
 use std::alloc::{AllocError, Global};
 
 // A part of the class that is as old as the class, and that the search has not left yet.
 fn first_part(parts: &[u32], nodes: &[Node], asked: &[Asked], marks: &[u64], floor: u64, class: u32) -> Option<u32>
+    requires fine { IsFine parts.now nodes.now }
+    requires parts { Within (length nodes.now) parts.now }
+    requires same { length asked.now ≡ length nodes.now }
+    requires long { length marks.now ≡ length nodes.now }
     requires within { class < length nodes.now }
+    ensures part { IfSome result (λ d. Child parts.now (at nodes.now class) d × (d < length nodes.now) × (mark_at marks.now d ≤ floor)) }
+    ensures none { IfNone result ((d : ℕ) → Child parts.now (at nodes.now class) d → IsReady asked.now marks.now floor class d) }
 {
     let birth = asked[class as usize].birth;
     match nodes[class as usize] {
@@ -39,8 +48,19 @@ fn number_all(
     stamp: &mut u64,
     floor: u64,
     path: &mut Vec<u32>,
-) -> Result<bool, AllocError> {
-    while let Some(class) = path.last().copied() {
+) -> Result<bool, AllocError>
+    requires fine { IsFine parts.now nodes.now }
+    requires parts { Within (length nodes.now) parts.now }
+    requires same { length asked.now ≡ length nodes.now }
+    requires numbered { Numbered parts.now nodes.now asked.now marks.old floor stamp.old }
+    requires path { IsPath parts.now nodes.now marks.old floor path.old.items }
+    ensures numbered { Numbered parts.now nodes.now asked.now marks.new floor stamp.new }
+    ensures path { IfOk result (λ done. done ≡ true → (path.new.items ≡ []) × IsPath parts.now nodes.now marks.new floor []) }
+    ensures seen { (c : ℕ) → floor ≤ mark_at marks.old c → floor ≤ mark_at marks.new c }
+    ensures endless { IfOk result (λ done. done ≡ false → IsEndless parts.now nodes.now) }
+{
+    while !path.is_empty() {
+        let class = path[path.len() - 1];
         match first_part(parts, nodes, asked, marks, floor, class) {
             None => {
                 *stamp = stamp.checked_add(1).ok_or(AllocError)?;
@@ -68,7 +88,16 @@ pub(crate) fn is_finite(
     marks: &mut [u64],
     stamp: &mut u64,
     changed: &[u32],
-) -> Result<bool, AllocError> {
+) -> Result<bool, AllocError>
+    requires fine { IsFine parts.now nodes.now }
+    requires parts { Within (length nodes.now) parts.now }
+    requires same { length asked.now ≡ length nodes.now }
+    requires stamped { Stamped (length nodes.now) marks.old stamp.old }
+    requires changed { Within (length nodes.now) changed.now }
+    ensures searched { IfOk result (λ finite. finite ≡ true → Searched parts.now nodes.now asked.now marks.new (stamp.old + 1) changed.now) }
+    ensures endless { IfOk result (λ finite. finite ≡ false → IsEndless parts.now nodes.now) }
+    ensures stamped { Stamped (length nodes.now) marks.new stamp.new }
+{
     *stamp = stamp.checked_add(1).ok_or(AllocError)?;
     let floor = *stamp;
     let mut path: Vec<u32> = Vec::new(alloc);

@@ -1,0 +1,5 @@
+pub mod Sets
+pub mod Steps
+pub mod Solved
+pub mod Members
+pub mod Asking
