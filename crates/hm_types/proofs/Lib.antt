@@ -3,3 +3,4 @@ pub mod Steps
 pub mod Solved
 pub mod Members
 pub mod Asking
+pub mod Searching
