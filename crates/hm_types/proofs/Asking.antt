@@ -12,7 +12,7 @@ use Rattle.hm_types.specs.declared.node.Equality.{Equality}
 use Rattle.hm_types.specs.declared.node.Equality.TheVariants.{Never, Always, Parts}
 use Rattle.hm_types.specs.Classes.{Assign, at, asked_at, name_at, part_list, terms_of, Respects, Holds, Meets, Allows, Takes, equality_of, equality_by}
 use Rattle.hm_types.specs.Joining.{IsIn, Within}
-use Rattle.hm_types.specs.Asking.{Below, both_of, AsksParts, OfParts, Closes, Closed, ClosedBut, Told, Spread, LacksAsked, freedom_of, freedom}
+use Rattle.hm_types.specs.Asking.{Below, both_of, AsksParts, OfParts, Closes, Closed, ClosedBut, Told, Spread, Lowers, LacksAsked, freedom_of, freedom}
 use Rattle.hm_types.proofs.Sets.{split}
 use Rattle.hm_types.proofs.Members.{in-front, in-snoc, last-in, within-snoc, within-in, at-front}
 
@@ -335,3 +335,18 @@ tell-met B C P w z xs more i G h m j l = go (split j i)
 pub tell-done : (names : List TypeName) (pool : List ℕ) (B : List Asked) (own more : Asked) (f i k n : ℕ) (v : Node) → v ≡ Made f i k → OfParts ((name_at names f).equality) own more → (name_at names f).birth ≤ own.birth
     → length (part_list pool i (i + k - i)) ≤ n → ((j : ℕ) → j < n → Below more (asked_at B (get_or (part_list pool i (i + k - i)) j 0))) → Closes names pool B own v
 tell-done names pool B own more f i k n v q o b l h = subst (Closes names pool B own) (sym q) (closes-made names pool B own more f i k o b (λ j m. subst (λ z. Below more (asked_at B (get_or (part_list pool i z) j 0))) (taken i k) (h j (let x : j < length (part_list pool i (i + k - i)) = subst (λ z. j < length (part_list pool i z)) (sym (taken i k)) m in omega (arith, x, l)))))
+
+pub lowers-same : (A : List Asked) → Lowers A A
+lowers-same A = record { lower = λ c. below-refl _; same_length = refl }
+
+pub lowers-is : (A B C : List Asked) → Lowers A B → C ≡ B → Lowers A C
+lowers-is A B C L q = subst (Lowers A) (sym q) L
+
+pub lowers-on : (A B C : List Asked) → Lowers A B → Lowers B C → Lowers A C
+lowers-on A B C F G = record { lower = λ c. below-on _ _ _ (F.lower c) (G.lower c); same_length = G.same_length ∙ F.same_length }
+
+pub told-lowers : (P : List TypeName → Assign → Type 0) (A B : List Asked) (v w : List ℕ) → Told P A B v w → Lowers A B
+told-lowers P A B v w F = record { lower = F.lower; same_length = F.same_length }
+
+pub spread-lowers : (names : List TypeName) (pool : List ℕ) (T : List Node) (A B : List Asked) (w : List ℕ) → Spread names pool T A B w → Lowers A B
+spread-lowers names pool T A B w F = record { lower = F.lower; same_length = F.same_length }

@@ -4,7 +4,7 @@ use Rattle.sml_syntax.specs.TypeTerms.{Term, Terms, variable, made, no_terms, te
 use Rattle.hm_types.specs.declared.node.Node.{Node}
 use Rattle.hm_types.specs.declared.node.Node.TheVariants.{Variable, Made, Link}
 use Rattle.hm_types.specs.Classes.{Assign, at, terms_of, part_list, Holds, Respects, Stands, stands_made, stands_free, stands_on}
-use Rattle.hm_types.specs.Joining.{Fine, IsFine, IsLink, Within, IsIn, Pairs, PairsIn, pairs_of, size_of, weight, Steps, Frame, NoSolution}
+use Rattle.hm_types.specs.Joining.{Fine, IsFine, IsLink, Within, IsIn, Pairs, PairsIn, pairs_of, size_of, weight, Steps, Keeps, Frame, NoSolution}
 use Rattle.hm_types.proofs.Sets.{split, at-set, at-other, respects-set, respects-unset, respects-at, fine-set, weight-set, pairs-append, pairs-left, pairs-right, in-append, in-left, in-right, pairs-terms, terms-pairs, terms-length}
 
 -- both give the class the same type
@@ -283,3 +283,12 @@ pub not-a-link : (v : Node) → ((d : ℕ) → v ≡ Link d → ⊥) → IsLink 
 not-a-link Variable n = refl
 not-a-link (Made f i k) n = refl
 not-a-link (Link d) n = absurd (n d refl)
+
+pub steps-keep : (pool : List ℕ) (T U : List Node) (v w : List (ℕ × ℕ)) → Steps pool T v U w → Keeps pool T U
+steps-keep pool T U v w F = record { fine = F.fine; same_length = F.same_length; comes = F.comes }
+
+pub keeps-is : (pool : List ℕ) (T U V : List Node) → Keeps pool T U → V ≡ U → Keeps pool T V
+keeps-is pool T U V K q = subst (Keeps pool T) (sym q) K
+
+pub keeps-same : (pool : List ℕ) (T : List Node) → IsFine pool T → Keeps pool T T
+keeps-same pool T fi = record { fine = fi; same_length = refl; comes = λ c f i k e. (c, e) }

@@ -74,3 +74,8 @@ pub record Spread (names : List TypeName) (parts : List ℕ) (nodes : List Node)
 -- no assignment that respects the nodes has what is asked
 abbrev pub LacksAsked : List TypeName → List ℕ → List Node → List Asked → Type 0
 LacksAsked names parts nodes asked = (s : Assign) → Respects parts nodes s → Meets names asked s → ⊥
+
+-- no less is asked
+pub record Lowers (old new : List Asked) : Type 0 where
+  pub lower : (c : ℕ) → Below (asked_at old c) (asked_at new c)
+  pub same_length : length new ≡ length old

@@ -66,3 +66,9 @@ pub record Frame (old new : List Node) (before after : List ℕ) : Type 0 where
 
 abbrev pub NoSolution : List ℕ → List Node → List (ℕ × ℕ) → Type 0
 NoSolution parts nodes work = (s : Assign) → Respects parts nodes s → Pairs s work → ⊥
+
+-- the nodes are still those of a table
+pub record Keeps (parts : List ℕ) (old new : List Node) : Type 0 where
+  pub fine : IsFine parts new
+  pub same_length : length new ≡ length old
+  pub comes : (c f i k : ℕ) → at new c ≡ Made f i k → (d : ℕ) × (at old d ≡ Made f i k)

@@ -1,7 +1,7 @@
 // Joins classes, and what has to be equal with them. Types may then hold themselves.
-ghost use Rattle.std.specs.Prelude.{◌≡◌, ◌+◌, ◌∷◌, [], ◌++◌, ◌<◌, ◌≤◌, ℕ, length, true, false, IfOk, Err};
+ghost use Rattle.std.specs.Prelude.{◌≡◌, ◌+◌, ◌∷◌, [], ◌++◌, ◌<◌, ◌≤◌, ℕ, length, true, false, IfOk, OnErr, Err};
 ghost use Rattle.hm_types.specs.Classes.{at, Stands};
-ghost use Rattle.hm_types.specs.Joining.{IsFine, IsLink, Within, pairs_of, PairsIn, Steps, Frame, NoSolution, weight};
+ghost use Rattle.hm_types.specs.Joining.{IsFine, IsLink, Within, pairs_of, PairsIn, Steps, Keeps, Frame, NoSolution, weight};
 ghost use Rattle.hm_types.specs.declared.refusal.UnifyRefusal.TheVariants.{Clash};
 
 use crate::{Node, UnifyRefusal};
@@ -47,6 +47,7 @@ fn merge(parts: &[u32], nodes: &mut [Node], low: u32, high: u32, work: &mut Vec<
     ensures less { IfOk result (λ _. length work.new.items + weight nodes.new ≤ length work.old.items + weight nodes.old) }
     ensures others { (c : ℕ) → (c ≡ low → ⊥) → (c ≡ high → ⊥) → at nodes.new c ≡ at nodes.old c }
     ensures none { result ≡ Err Clash → NoSolution parts.now nodes.old ((low, high) ∷ work.old.items) }
+    ensures err { OnErr result (nodes.new ≡ nodes.old) }
 {
     match nodes[high as usize] {
         Node::Link(_) => unreachable!(),
@@ -96,6 +97,7 @@ fn equate(
     ensures less { IfOk result (λ _. length work.new.items + weight nodes.new ≤ length work.old.items + weight nodes.old) }
     ensures frame { IfOk result (λ _. Frame nodes.old nodes.new changed.old.items changed.new.items) }
     ensures none { result ≡ Err Clash → NoSolution parts.now nodes.old ((x, y) ∷ work.old.items) }
+    ensures err { OnErr result (nodes.new ≡ nodes.old) }
 {
     let p = root_of(parts, nodes, x);
     let q = root_of(parts, nodes, y);
@@ -121,6 +123,7 @@ pub(crate) fn join(alloc: Global, parts: &[u32], nodes: &mut [Node], a: u32, b: 
     ensures steps { IfOk result (λ changed. Steps parts.now nodes.old ((a, b) ∷ []) nodes.new []) }
     ensures frame { IfOk result (λ changed. Frame nodes.old nodes.new [] changed.items) }
     ensures none { result ≡ Err Clash → NoSolution parts.now nodes.old ((a, b) ∷ []) }
+    ensures keeps { Keeps parts.now nodes.old nodes.new }
 {
     let mut work: Vec<(u32, u32)> = Vec::new(alloc);
     let mut changed: Vec<u32> = Vec::new(alloc);

@@ -1,7 +1,7 @@
 // Hands what is asked of a class on to its parts.
-ghost use Rattle.std.specs.Prelude.{◌≡◌, ◌+◌, ◌∷◌, [], ◌++◌, ◌<◌, ◌≤◌, ℕ, length, true, false, IfOk, Err};
+ghost use Rattle.std.specs.Prelude.{◌≡◌, ◌+◌, ◌∷◌, [], ◌++◌, ◌<◌, ◌≤◌, ℕ, length, true, false, IfOk, OnErr, Err};
 ghost use Rattle.hm_types.specs.Classes.{Allows, Respects, at, asked_at};
-ghost use Rattle.hm_types.specs.Asking.{Told, Below, both_of, OfParts, Closes, ClosedBut, Spread, LacksAsked};
+ghost use Rattle.hm_types.specs.Asking.{Told, Below, both_of, OfParts, Closes, ClosedBut, Spread, Lowers, LacksAsked};
 ghost use Rattle.hm_types.specs.Joining.{IsFine, Within};
 ghost use Rattle.hm_types.specs.Kept.{Sorted};
 ghost use Rattle.hm_types.specs.declared.node.Equality.TheVariants.{Never};
@@ -26,6 +26,7 @@ fn ask(asked: &mut [Asked], class: u32, more: Asked, work: &mut Vec<u32>) -> Res
     ensures told { IfOk result (λ _. Told (λ names s. Allows names more (s class)) asked.old asked.new work.old.items work.new.items) }
     ensures met { IfOk result (λ _. Below more (asked_at asked.new class)) }
     ensures memory { result ≡ Err refusal.Clash → ⊥ }
+    ensures err { OnErr result (asked.new ≡ asked.old) }
 {
     let now = asked[class as usize];
     let met = both(now, more);
@@ -74,6 +75,7 @@ fn tell(
     ensures told { IfOk result (λ _. Told (λ n s. (n ≡ names.now) × Respects parts.now nodes.now s) asked.old asked.new work.old.items work.new.items) }
     ensures closes { IfOk result (λ _. Closes names.now parts.now asked.new (asked_at asked.old class) (at nodes.now class)) }
     ensures none { result ≡ Err refusal.Clash → LacksAsked names.now parts.now nodes.now asked.old }
+    ensures lowers { Lowers asked.old asked.new }
 {
     let own = asked[class as usize];
     match nodes[class as usize] {
@@ -111,6 +113,7 @@ pub(crate) fn spread(
     requires closed { ClosedBut names.now parts.now nodes.now asked.old changed.now }
     ensures spread { IfOk result (λ _. Spread names.now parts.now nodes.now asked.old asked.new []) }
     ensures none { result ≡ Err refusal.Clash → LacksAsked names.now parts.now nodes.now asked.old }
+    ensures lowers { Lowers asked.old asked.new }
 {
     let mut work: Vec<u32> = Vec::new(alloc);
     work.extend_from_slice(changed)?;

@@ -1,6 +1,9 @@
 ghost use Rattle.std.specs.Prelude.{◌≡◌, ◌+◌, ◌∷◌, [], ◌++◌, ◌<◌, ◌≤◌, ◌↔◌, ◌⊎◌, ℕ, length, true, false, IfOk, IfSome, OnOk, OnErr, Err, Ok, vec_capacity};
-ghost use Rattle.hm_types.specs.Classes.{Assign, Allows, terms_of, at, asked_at, name_at, name_in, part_in, Stands};
-ghost use Rattle.hm_types.specs.Joining.{Within};
+ghost use Rattle.hm_types.specs.Classes.{Assign, Allows, Respects, Meets, terms_of, at, asked_at, name_at, name_in, part_in, Stands};
+ghost use Rattle.hm_types.specs.Joining.{IsFine, Within, Keeps};
+ghost use Rattle.hm_types.specs.Asking.{Lowers};
+ghost use Rattle.hm_types.specs.Searching.{Stamped};
+ghost use Rattle.hm_types.specs.Kept.{Sorted, IsSettled, Joined};
 ghost use Rattle.hm_types.specs.Solving.{Solves, Solved, Joins, MostGeneral, HasNoUnifier, SameClasses, OneMore, IsDeclared, Grows};
 ghost use Rattle.hm_types.specs.Copying.{Copies};
 ghost use Rattle.hm_types.specs.declared.node.Node.TheVariants.{Variable};
@@ -67,7 +70,21 @@ fn settle(
     stamp: &mut u64,
     a: u32,
     b: u32,
-) -> Result<(), UnifyRefusal> {
+) -> Result<(), UnifyRefusal>
+    requires fine { IsFine parts.now nodes.old }
+    requires parts { Within (length nodes.old) parts.now }
+    requires sorted { Sorted names.now nodes.old }
+    requires same { length asked.old ≡ length nodes.old }
+    requires stamped { Stamped (length nodes.old) marks.old stamp.old }
+    requires settled { IsSettled names.now parts.now nodes.old asked.old }
+    requires first { a < length nodes.old }
+    requires second { b < length nodes.old }
+    ensures joined { IfOk result (λ _. Joined names.now parts.now nodes.old asked.old nodes.new asked.new a b) }
+    ensures none { result ≡ Err refusal.Clash → (s : Assign) → Respects parts.now nodes.old s → Meets names.now asked.old s → s a ≡ s b → ⊥ }
+    ensures keeps { Keeps parts.now nodes.old nodes.new }
+    ensures lowers { Lowers asked.old asked.new }
+    ensures stamped { Stamped (length nodes.new) marks.new stamp.new }
+{
     let changed = join(alloc, parts, nodes, a, b)?;
     spread(alloc, names, parts, nodes, asked, &changed)?;
     if is_finite(alloc, parts, nodes, asked, marks, stamp, &changed)? {
