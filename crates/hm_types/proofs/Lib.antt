@@ -3,4 +3,7 @@ pub mod Steps
 pub mod Solved
 pub mod Members
 pub mod Asking
+pub mod Ranks
+pub mod Choices
+pub mod Settling
 pub mod Searching
