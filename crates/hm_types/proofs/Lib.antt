@@ -6,4 +6,5 @@ pub mod Asking
 pub mod Ranks
 pub mod Choices
 pub mod Settling
+pub mod Growth
 pub mod Searching

@@ -41,7 +41,7 @@ unfoldable pub above : (ℕ → ℕ) → ℕ → ℕ
 above r zero = 0
 above r (suc n) = suc (r n) + above r n
 
-is-above : (r : ℕ → ℕ) (n c : ℕ) → c < n → r c < above r n
+pub is-above : (r : ℕ → ℕ) (n c : ℕ) → c < n → r c < above r n
 unfolding above
 is-above r zero c l = absurd (omega arith)
 is-above r (suc n) c l = go (λ h. is-above r n c h) (cases_lt c n)

@@ -1,5 +1,8 @@
 -- The parts of the unifier put together.
-use Rattle.std.proofs.Common.{◌≡◌, ℕ, ◌+◌, ◌<◌, ◌≤◌, List, [], ◌∷◌, length, Bool, true, false, refl, ap, sym, ◌∙◌, subst, arith, ◌⊎◌, inl, inr}
+use Rattle.std.specs.Prelude.{not}
+use Rattle.std.proofs.Common.{append-nil, take, drop, ◌++◌, ◌≡◌, ℕ, ◌+◌, ◌<◌, ◌≤◌, List, [], ◌∷◌, length, Bool, true, false, refl, ap, sym, ◌∙◌, subst, arith, ◌⊎◌, inl, inr}
+use Rattle.std.proofs.Math.ListN.{drop_of_length-le}
+use Rattle.std.proofs.lemmas.List.{take_all}
 use Rattle.hm_types.specs.declared.node.Node.{Node}
 use Rattle.hm_types.specs.declared.node.Node.TheVariants.{Variable, Made, Link}
 use Rattle.hm_types.specs.declared.node.Asked.{Asked}
@@ -93,3 +96,33 @@ most-general g h a b qn qp sg sh wi so len J = record {
 
     before : (s : Assign) → Solves h s → (c : ℕ) → c < length g.asked → Allows g.names (asked_at g.asked c) (s c)
     before s S c l = allows-below g.names (asked_at g.asked c) (asked_at h.asked c) (s c) (J.spread.lower c) (subst (λ z. Allows z (asked_at h.asked c) (s c)) qn (S.meets c (let x = J.spread.same_length in omega (arith, x, l))))
+
+-- a list of the same length, written back
+pub written : {X : Type 0} (old new : List X) (n : ℕ) → n ≡ length old → length new ≡ length old → take n (new ++ drop (length new) old) ≡ new
+written old new n e l = ap (λ z. take n (new ++ z)) (drop_of_length-le old (omega (arith, l))) ∙ ap (λ z. take n z) (append-nil new) ∙ take_all n new (omega (arith, e, l))
+
+pub unify-done : (g : TypeGraph) (N : List TypeName) (P : List ℕ) (T : List Node) (A : List Asked) (U U2 : List Node) (B B2 : List Asked) (a b : ℕ) → N ≡ g.names → P ≡ g.parts → T ≡ g.nodes → A ≡ g.asked → U2 ≡ U → B2 ≡ B → Joined N P T A U B a b
+    → g.clashed ≡ false → Within (length g.nodes) g.parts → Sorted g.names g.nodes → length g.asked ≡ length g.nodes
+    → MostGeneral g (record { names = g.names; parts = g.parts; nodes = U2; asked = B2; clashed = g.clashed; spent = g.spent }) a b
+unify-done g N P T A U U2 B B2 a b qn qp qt qa qu qb J sound wi so len =
+    most-general g (record { names = g.names; parts = g.parts; nodes = U2; asked = B2; clashed = g.clashed; spent = g.spent }) a b refl refl sound sound wi so len
+      (subst (λ z. Joined g.names g.parts g.nodes g.asked z B2 a b) (sym qu) (subst (λ z. Joined g.names g.parts g.nodes g.asked U z a b) (sym qb)
+        (subst (λ z. Joined g.names g.parts g.nodes z U B a b) qa (subst (λ z. Joined g.names g.parts z A U B a b) qt (subst (λ z. Joined g.names z T A U B a b) qp (subst (λ z. Joined z P T A U B a b) qn J))))))
+
+pub settled-done : (N names : List TypeName) (P parts : List ℕ) (T : List Node) (A : List Asked) (U U2 : List Node) (B B2 : List Asked) (a b : ℕ) → N ≡ names → P ≡ parts → U2 ≡ U → B2 ≡ B → Joined N P T A U B a b → IsSettled names parts U2 B2
+settled-done N names P parts T A U U2 B B2 a b qn qp qu qb J = subst (λ z. IsSettled names parts z B2) (sym qu) (subst (λ z. IsSettled names parts U z) (sym qb) (subst (λ z. IsSettled names z U B) qp (subst (λ z. IsSettled z P U B) qn J.settled)))
+
+pub unify-table : (names : List TypeName) (P pool : List ℕ) (T T0 : List Node) (A A0 : List Asked) (marks : List ℕ) (stamp : ℕ) (clashed spent clashed2 spent2 : Bool) (U U2 : List Node) (B B2 : List Asked) (M M2 : List ℕ) (stamp2 : ℕ) → IsTable names pool T A marks stamp clashed spent
+    → P ≡ pool → T0 ≡ T → A0 ≡ A → U2 ≡ U → B2 ≡ B → M2 ≡ M → Keeps P T0 U → Lowers A0 B → Stamped (length U) M stamp2 → (clashed2 ≡ false → spent2 ≡ false → IsSettled names pool U2 B2) → IsTable names pool U2 B2 M2 stamp2 clashed2 spent2
+unify-table names P pool T T0 A A0 marks stamp clashed spent clashed2 spent2 U U2 B B2 M M2 stamp2 H qp qt qa qu qb qm K L E S =
+    table-on names pool T U2 A B2 marks M2 stamp stamp2 clashed spent clashed2 spent2 H
+      (subst (λ z. Keeps pool T z) (sym qu) (subst (λ z. Keeps pool z U) qt (subst (λ z. Keeps z T0 U) qp K)))
+      (subst (λ z. Lowers A z) (sym qb) (subst (λ z. Lowers z B) qa L))
+      (subst (λ z. Stamped (length U2) z stamp2) (sym qm) (subst (λ z. Stamped (length z) M stamp2) (sym qu) E)) S
+
+pub not-true : (b : Bool) → not b ≡ true → b ≡ false
+not-true true q = sym q
+not-true false q = refl
+
+pub most-is : (g g' h : TypeGraph) (a b : ℕ) → g ≡ g' → MostGeneral g h a b → MostGeneral g' h a b
+most-is g g' h a b q M = subst (λ z. MostGeneral z h a b) q M
