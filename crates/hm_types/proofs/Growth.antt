@@ -351,3 +351,6 @@ con-joins g h more f n a c e fi len qn qp qt qa qc qm ae ab lf ar w born declare
 
 pub joins-is : (g g' h : TypeGraph) (P : Assign → Type 0) → g ≡ g' → Joins g h P → Joins g' h P
 joins-is g g' h P q J = subst (λ z. Joins z h P) q J
+
+pub var-joins-is : (g g' h : TypeGraph) (a : Asked) (c : ℕ) → g ≡ g' → Joins g h (λ s. Allows g.names a (s c)) → Joins g' h (λ s. Allows g'.names a (s c))
+var-joins-is g g' h a c q J = subst (λ z. Joins z h (λ s. Allows z.names a (s c))) q J

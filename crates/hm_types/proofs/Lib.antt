@@ -7,4 +7,5 @@ pub mod Ranks
 pub mod Choices
 pub mod Settling
 pub mod Growth
+pub mod Declaring
 pub mod Searching
