@@ -143,7 +143,7 @@ path-open pool T marks path after floor top part P t ch l m len a = subst (IsPat
     all c e (inr n) = in-front c path (part ∷ []) (P.all c (sym (mark-other marks part floor c n) ∙ e))
 
 pub numbered-done : (pool : List ℕ) (T : List Node) (A : List Asked) (marks : List ℕ) (floor stamp top : ℕ) → Numbered pool T A marks floor stamp → top < length T → mark_at marks top ≡ floor
-    → ((d : ℕ) → Child pool (at T top) d → IsReady A marks floor top d) → Numbered pool T A (set marks top (stamp + 1)) floor (stamp + 1)
+    → ((d : ℕ) → Child pool (at T top) d → IsReady A marks floor ((asked_at A top).birth) d) → Numbered pool T A (set marks top (stamp + 1)) floor (stamp + 1)
 numbered-done pool T A marks floor stamp top N l m ready = record {
     long = length-set marks top (stamp + 1) ∙ N.long;
     after = let a = N.after in omega (arith, a);
@@ -171,7 +171,7 @@ numbered-done pool T A marks floor stamp top N l m ready = record {
         → ((asked_at A d).birth < (asked_at A c).birth) ⊎ ((floor < mark_at new d) × (mark_at new d < mark_at new c))
     falls c d f i (inl q) e = subst (λ z. ((asked_at A d).birth < (asked_at A z).birth) ⊎ ((floor < mark_at new d) × (mark_at new d < mark_at new z))) (sym q) (go (ready d (subst (λ z. Child pool (at T z) d) q i)))
       where
-        go : IsReady A marks floor top d → ((asked_at A d).birth < (asked_at A top).birth) ⊎ ((floor < mark_at new d) × (mark_at new d < mark_at new top))
+        go : IsReady A marks floor ((asked_at A top).birth) d → ((asked_at A d).birth < (asked_at A top).birth) ⊎ ((floor < mark_at new d) × (mark_at new d < mark_at new top))
         go (inl b) = inl b
         go (inr b) = inr (let x = mark-other marks top (stamp + 1) d (not-top d b) in let y = N.below d in (omega (arith, x, b), omega (arith, x, y, here)))
     falls c d f i (inr n) e = go (N.falls c d (subst (λ z. floor < z) (mark-other marks top (stamp + 1) c n) f) i)
@@ -242,7 +242,7 @@ top-within pool T marks path floor top P k t = (subst (λ z. z < length T) (sym 
 
 -- the class at the end of the way gets a number
 pub turn-done : (pool : List ℕ) (T : List Node) (A : List Asked) (marks path rest : List ℕ) (floor stamp st n top : ℕ) → Numbered pool T A marks floor stamp → IsPath pool T marks floor path → length path ≡ n → 0 < n → top ≡ get_or path (n - 1) top
-    → ((d : ℕ) → Child pool (at T top) d → IsReady A marks floor top d) → st ≡ stamp + 1 → rest ≡ take (n - 1) path
+    → ((d : ℕ) → Child pool (at T top) d → IsReady A marks floor ((asked_at A top).birth) d) → st ≡ stamp + 1 → rest ≡ take (n - 1) path
     → Numbered pool T A (set marks top st) floor st × IsPath pool T (set marks top st) floor rest × ((c : ℕ) → floor ≤ mark_at marks c → floor ≤ mark_at (set marks top st) c)
 turn-done pool T A marks path rest floor stamp st n top N P l k t ready e a = subst (λ v. Numbered pool T A (set marks top v) floor v × IsPath pool T (set marks top v) floor rest × ((c : ℕ) → floor ≤ mark_at marks c → floor ≤ mark_at (set marks top v) c)) (sym e)
     (numbered-done pool T A marks floor stamp top N (w.0) (w.1) ready,
@@ -296,3 +296,62 @@ turn-endless pool T marks path floor n top part fi P l k t w m = path-endless po
 
 pub some-is : (o : Option ℕ) (a b : ℕ) (p : Type 0) → o ≡ Some a → SomeIff o p b → a ≡ b
 some-is o a b p q h = (subst (λ z. SomeIff z p b) q h).1
+
+unseen-up : (floor : ℕ) (marks : List ℕ) (h v : ℕ) → h < length marks → floor ≤ v → unseen floor (set marks h v) ≤ unseen floor marks
+unfolding unseen one
+unseen-up floor [] h v l f = absurd (omega arith)
+unseen-up floor (x ∷ marks) zero v l f = let b = one-above floor v f in omega (arith, b)
+unseen-up floor (x ∷ marks) (suc h) v l f = let q = unseen-up floor marks h v (omega arith) f in omega (arith, q)
+
+-- a walk that lists classes, each after its parts
+pub record Listing (T : List Node) (marks path order : List ℕ) (floor stamp : ℕ) : Type 0 where
+  pub stamped : Stamped (length T) marks stamp
+  pub after : floor ≤ stamp
+  pub path_in : Within (length T) path
+  pub order_in : Within (length T) order
+
+stamped-set : (T : List Node) (marks : List ℕ) (h v stamp : ℕ) → h < length T → v ≤ stamp → Stamped (length T) marks stamp → Stamped (length T) (set marks h v) stamp
+stamped-set T marks h v stamp l k (n, b) = (length-set marks h v ∙ n, λ c. go c (split c h))
+  where
+    go : (c : ℕ) → (c ≡ h) ⊎ (c ≢ h) → mark_at (set marks h v) c ≤ stamp
+    go c (inl q) = subst (λ z. mark_at (set marks h v) z ≤ stamp) (sym q) (let x = mark-here marks h v (omega (arith, n, l)) in omega (arith, x, k))
+    go c (inr m) = let x = mark-other marks h v c m in let y = b c in omega (arith, x, y)
+
+pub list-open : (T : List Node) (marks path path2 order : List ℕ) (floor stamp part : ℕ) → Listing T marks path order floor stamp → part < length T → path2 ≡ path ++ part ∷ [] → Listing T (set marks part floor) path2 order floor stamp
+list-open T marks path path2 order floor stamp part L l a = record {
+    stamped = stamped-set T marks part floor stamp l L.after L.stamped;
+    after = L.after;
+    path_in = subst (Within (length T)) (sym a) (within-snoc (length T) part path L.path_in l);
+    order_in = L.order_in
+  }
+
+pub list-open-less : (T : List Node) (marks path path2 order : List ℕ) (floor stamp part : ℕ) → Listing T marks path order floor stamp → part < length T → mark_at marks part ≤ floor → (mark_at marks part ≡ floor → ⊥) → path2 ≡ path ++ part ∷ []
+    → length path2 + (unseen floor (set marks part floor) + unseen floor (set marks part floor)) < length path + (unseen floor marks + unseen floor marks)
+list-open-less T marks path path2 order floor stamp part L l m ne a =
+    let y = L.stamped.0 in
+    let u = unseen-less floor marks part floor (omega (arith, l, y)) (omega (arith, m, ne)) (omega arith) in
+    let r : length path2 ≡ length (path ++ part ∷ []) = ap (λ z. length z) a in
+    let q = length-append path (part ∷ []) in omega (arith, u, r, q)
+
+shorter : (n : ℕ) (path : List ℕ) (k : ℕ) → Within n path → Within n (take k path)
+shorter n path k w i l = let x = length-take k path in let y : i < k = grind (arith, x, l) in subst (λ z. z < n) (sym (get_or-take k path i 0 y)) (w i (grind (arith, x, l)))
+
+pub list-done : (T : List Node) (marks path path2 order order2 : List ℕ) (floor stamp st n top : ℕ) → Listing T marks path order floor stamp → length path ≡ n → 0 < n → top ≡ get_or path (n - 1) top → st ≡ stamp + 1 → path2 ≡ take (n - 1) path → order2 ≡ order ++ top ∷ [] → Listing T (set marks top st) path2 order2 floor st
+list-done T marks path path2 order order2 floor stamp st n top L l k t e a b = subst (λ v. Listing T (set marks top v) path2 order2 floor v) (sym e) (record {
+    stamped = stamped-set T marks top (stamp + 1) (stamp + 1) lt (omega arith) (L.stamped.0, λ c. (let x = L.stamped.1 c in omega (arith, x)));
+    after = (let x = L.after in omega (arith, x));
+    path_in = subst (Within (length T)) (sym a) (shorter (length T) path (n - 1) L.path_in);
+    order_in = subst (Within (length T)) (sym b) (within-snoc (length T) top order L.order_in lt)
+  })
+  where
+    lt : top < length T
+    lt = subst (λ z. z < length T) (sym (top-of path n top l k t)) (L.path_in (length path - 1) (omega (arith, l, k)))
+
+pub list-done-less : (T : List Node) (marks path path2 order : List ℕ) (floor stamp st n top : ℕ) → Listing T marks path order floor stamp → length path ≡ n → 0 < n → top ≡ get_or path (n - 1) top → st ≡ stamp + 1 → path2 ≡ take (n - 1) path
+    → length path2 + (unseen floor (set marks top st) + unseen floor (set marks top st)) < length path + (unseen floor marks + unseen floor marks)
+list-done-less T marks path path2 order floor stamp st n top L l k t e a =
+    let lt : top < length T = subst (λ z. z < length T) (sym (top-of path n top l k t)) (L.path_in (length path - 1) (omega (arith, l, k))) in
+    let y = L.stamped.0 in let x = L.after in
+    let u = unseen-up floor marks top st (omega (arith, lt, y)) (omega (arith, e, x)) in
+    let r : length path2 ≡ length (take (n - 1) path) = ap (λ z. length z) a in
+    let q = length-take (n - 1) path in grind (arith, u, r, q, l, k)

@@ -3,5 +3,4 @@ pub mod Solving
 pub mod Joining
 pub mod Asking
 pub mod Searching
-pub mod Copying
 pub mod Kept

@@ -23,7 +23,7 @@ mark_at marks c = get_or marks c 0
 
 -- the class needs no search before those above it: it is older, or has a number
 abbrev pub IsReady : List Asked → List ℕ → ℕ → ℕ → ℕ → Type 0
-IsReady asked marks floor c d = ((asked_at asked d).birth < (asked_at asked c).birth) ⊎ (floor < mark_at marks d)
+IsReady asked marks floor birth d = ((asked_at asked d).birth < birth) ⊎ (floor < mark_at marks d)
 
 -- the classes with numbers have their parts numbered lower, or older
 pub record Numbered (parts : List ℕ) (nodes : List Node) (asked : List Asked) (marks : List ℕ) (floor stamp : ℕ) : Type 0 where

@@ -7,17 +7,24 @@ ghost use Rattle.hm_types.specs.Searching.{Child, IsReady, Numbered, Searched, S
 use crate::{Asked, Node};
 use std::alloc::{AllocError, Global};
 
-// A part of the class that is as old as the class, and that the search has not left yet.
-fn first_part(parts: &[u32], nodes: &[Node], asked: &[Asked], marks: &[u64], floor: u64, class: u32) -> Option<u32>
+// A part of the class that is no older than that, and that the walk has not left yet.
+pub(crate) fn first_part(
+    parts: &[u32],
+    nodes: &[Node],
+    asked: &[Asked],
+    marks: &[u64],
+    floor: u64,
+    class: u32,
+    birth: u32,
+) -> Option<u32>
     requires fine { IsFine parts.now nodes.now }
     requires parts { Within (length nodes.now) parts.now }
     requires same { length asked.now ≡ length nodes.now }
     requires long { length marks.now ≡ length nodes.now }
     requires within { class < length nodes.now }
     ensures part { IfSome result (λ d. Child parts.now (at nodes.now class) d × (d < length nodes.now) × (mark_at marks.now d ≤ floor)) }
-    ensures none { IfNone result ((d : ℕ) → Child parts.now (at nodes.now class) d → IsReady asked.now marks.now floor class d) }
+    ensures none { IfNone result ((d : ℕ) → Child parts.now (at nodes.now class) d → IsReady asked.now marks.now floor birth d) }
 {
-    let birth = asked[class as usize].birth;
     match nodes[class as usize] {
         Node::Variable => None,
         Node::Link(older) => {
@@ -61,7 +68,7 @@ fn number_all(
 {
     while !path.is_empty() {
         let class = path[path.len() - 1];
-        match first_part(parts, nodes, asked, marks, floor, class) {
+        match first_part(parts, nodes, asked, marks, floor, class, asked[class as usize].birth) {
             None => {
                 *stamp = stamp.checked_add(1).ok_or(AllocError)?;
                 marks[class as usize] = *stamp;

@@ -1,16 +1,15 @@
-ghost use Rattle.std.specs.Prelude.{◌≡◌, ◌+◌, ◌∷◌, [], ◌++◌, ◌<◌, ◌≤◌, ◌↔◌, ◌⊎◌, ℕ, length, true, false, IfOk, IfSome, OnOk, OnErr, Err, Ok, vec_capacity};
+ghost use Rattle.std.specs.Prelude.{◌≡◌, ◌+◌, ◌∷◌, [], ◌++◌, ◌<◌, ◌≤◌, ◌↔◌, ◌⊎◌, ℕ, length, true, false, IfOk, IfSome, IfNone, OnOk, OnErr, Err, Ok, vec_capacity};
 ghost use Rattle.hm_types.specs.Classes.{Assign, Allows, Respects, Meets, terms_of, at, asked_at, name_at, name_in, part_in, Stands};
 ghost use Rattle.hm_types.specs.Joining.{IsFine, Within, Keeps};
 ghost use Rattle.hm_types.specs.Asking.{Lowers};
 ghost use Rattle.hm_types.specs.Searching.{Stamped};
 ghost use Rattle.hm_types.specs.Kept.{Sorted, IsSettled, Joined};
 ghost use Rattle.hm_types.specs.Solving.{Solves, Solved, Joins, MostGeneral, HasNoUnifier, SameClasses, OneMore, IsDeclared, Grows};
-ghost use Rattle.hm_types.specs.Copying.{Copies};
 ghost use Rattle.hm_types.specs.declared.node.Node.TheVariants.{Variable};
 ghost use Rattle.hm_types.specs.declared.refusal.UnifyRefusal.TheVariants as refusal;
 ghost use Rattle.sml_syntax.specs.TypeTerms.{made};
 
-use crate::copy::{copies_of, list_below};
+use crate::copy::list_below;
 use crate::join::{join, root_of};
 use crate::search::is_finite;
 use crate::spread::spread;
@@ -191,6 +190,17 @@ impl TypeTable {
         root_of(&self.parts, &self.nodes, class)
     }
 
+    /// How many arguments a type name takes, none where there is no such name.
+    pub fn arity(&self, name: u32) -> Option<u32>
+        ensures arity { IfSome result (λ n. (name < length self.now.names) × (n ≡ (name_at self.now.names name).arity)) }
+        ensures none { IfNone result (length self.now.names ≤ name) }
+    {
+        if name as usize >= self.names.len() {
+            return None;
+        }
+        Some(self.names[name as usize].arity)
+    }
+
     /// The type name of a class, none for a variable.
     pub fn name(&self, class: u32) -> Option<u32>
         requires within { class < length self.now.nodes }
@@ -277,45 +287,92 @@ impl TypeTable {
         }
     }
 
-    /// A copy of a class with new variables for those that aren't older than the mark, a number of classes. Where all is
-    /// older it is the class itself.
+    /// A copy of a class with new variables for those that aren't older than the mark, a number of classes. What is older it
+    /// shares, and where all is older it is the class itself. After want of memory some copies may stand already.
     pub fn copy(&mut self, class: u32, mark: u32) -> Result<u32, NoMemory>
         requires within { class < length self.old.nodes }
-        requires mark { mark ≤ length self.old.nodes }
-        ensures copies { IfOk result (λ d. (d < length self.new.nodes) × Copies self.old self.new mark class d) }
-        ensures same { IfOk result (λ d. Grows self.old self.new) }
-        ensures kept { OnErr result (self.new ≡ self.old) }
+        ensures within { IfOk result (λ d. d < length self.new.nodes) }
+        ensures grows { Grows self.old self.new }
     {
         let root = self.find(class);
-        if self.asked[root as usize].birth < mark {
+        if self.asked(root).birth < mark {
             return Ok(root);
         }
-        let base = self.stamp;
-        if base > 9223372036854775807 {
-            return Err(NoMemory);
+        let order = self.order(root, mark)?;
+        let floor = self.stamp.saturating_sub(order.len() as u64);
+        let mut copies: Vec<u32> = Vec::new(self.alloc);
+        for i in 0..order.len() {
+            let copy = self.remake(order[i], mark, floor, &copies)?;
+            copies.push(copy)?;
         }
-        let list = list_below(self.alloc, &self.parts, &self.nodes, &self.asked, &mut self.marks, base, mark, root)?;
-        self.stamp = base + list.len() as u64;
-        let (copies, below) = copies_of(self.alloc, &self.parts, &self.nodes, &self.asked, &self.marks, base, mark, &list)?;
-        self.add_all(&list, &copies, &below)
+        Ok(self.image(root, mark, floor, &copies))
     }
 
-    // Adds copies of classes.
-    fn add_all(&mut self, list: &[u32], copies: &[Node], below: &[u32]) -> Result<u32, NoMemory> {
-        let count = self.nodes.len();
-        if count + copies.len() >= 4294967296 || self.parts.len() + below.len() >= 4294967296 {
-            return Err(NoMemory);
+    // The classes that a copy is made of, each after its parts.
+    fn order(&mut self, class: u32, mark: u32) -> Result<Vec<u32>, NoMemory>
+        requires within { class < length self.old.nodes }
+        ensures same { self.new ≡ self.old }
+        ensures within { IfOk result (λ order. Within (length self.new.nodes) order.items) }
+    {
+        let order = list_below(
+            self.alloc,
+            &self.parts,
+            &self.nodes,
+            &self.asked,
+            &mut self.marks,
+            &mut self.stamp,
+            class,
+            mark,
+        )?;
+        Ok(order)
+    }
+
+    // What stands for a class in a copy.
+    fn image(&self, class: u32, mark: u32, floor: u64, copies: &[u32]) -> u32
+        requires within { class < length self.now.nodes }
+        requires copies { Within (length self.now.nodes) copies.now }
+        ensures within { result < length self.now.nodes }
+    {
+        if self.asked[class as usize].birth < mark {
+            return class;
         }
-        make_room(&mut self.nodes, &mut self.asked, &mut self.marks, copies.len())?;
-        self.parts.extend_from_slice(below)?;
-        for i in 0..copies.len() {
-            self.nodes.push_reserved(copies[i]);
-            self.asked.push_reserved(Asked {
-                equality: self.asked[list[i] as usize].equality,
-                birth: count as u32,
-            });
-            self.marks.push_reserved(0);
+        let number = self.marks[class as usize].saturating_sub(floor).saturating_sub(1);
+        match copies.get(number as usize) {
+            Some(copy) => *copy,
+            None => class,
         }
-        Ok(count as u32)
+    }
+
+    // The copy of a class whose parts are copied.
+    fn remake(&mut self, class: u32, mark: u32, floor: u64, copies: &[u32]) -> Result<u32, NoMemory>
+        requires within { class < length self.old.nodes }
+        requires copies { Within (length self.old.nodes) copies.now }
+        ensures within { IfOk result (λ d. d < length self.new.nodes) }
+        ensures grows { Grows self.old self.new }
+    {
+        let equality = self.asked[class as usize].equality;
+        match self.nodes[class as usize] {
+            Node::Variable => self.var(equality),
+            Node::Link(older) => Ok(self.image(older, mark, floor, copies)),
+            Node::Made(name, first, count) => {
+                let parts = self.images(first, count, mark, floor, copies)?;
+                self.con(name, &parts)
+            }
+        }
+    }
+
+    // What stands for so many parts, from a place on, in a copy.
+    fn images(&self, first: u32, count: u32, mark: u32, floor: u64, copies: &[u32]) -> Result<Vec<u32>, NoMemory>
+        requires parts { first + count ≤ length self.now.parts }
+        requires copies { Within (length self.now.nodes) copies.now }
+        ensures within { IfOk result (λ images. Within (length self.now.nodes) images.items) }
+        ensures count { IfOk result (λ images. length images.items ≡ count) }
+    {
+        let mut images: Vec<u32> = Vec::new(self.alloc);
+        for i in 0..count {
+            let part = self.parts[first as usize + i as usize];
+            images.push(self.image(part, mark, floor, copies))?;
+        }
+        Ok(images)
     }
 }
