@@ -76,6 +76,7 @@ asked-other T h c v n = get_or-set_other T h c v _ n
 -- a type with fewer classes at hand has what is asked with more
 mutual
   unfolding IsOver AllOver
+
   pub over-mono : (names : List TypeName) (a b : ℕ) → a ≤ b → (t : Term ℕ) → IsOver (Takes names a) t → IsOver (Takes names b) t
   over-mono names a b l (variable e n) h = tt
   over-mono names a b l (made f ts) ((p, q, r), k) = ((p, omega (arith, q, l), r), overs-mono names a b l ts k)
@@ -117,30 +118,30 @@ below-is a b q = subst (Below a) (sym q) (below-refl a)
 -- nothing new
 pub told-same : (P : List TypeName → Assign → Type 0) (T : List Asked) (w : List ℕ) → Told P T T w w
 told-same P T w = record {
-    there = λ names s p m. m;
-    lower = λ c. below-refl _;
-    only = λ c. inl refl;
-    kept = λ c i. i;
-    same_length = refl;
-    within = λ h. h;
-    less = omega arith
-  }
+  there = λ names s p m. m;
+  lower = λ c. below-refl _;
+  only = λ c. inl refl;
+  kept = λ c i. i;
+  same_length = refl;
+  within = λ h. h;
+  less = omega arith;
+}
 
 pub told-set : (T : List Asked) (h : ℕ) (more met : Asked) (before after : List ℕ) → h < length T → met ≡ both_of (asked_at T h) more → (met ≡ asked_at T h → ⊥) → after ≡ before ++ h ∷ []
     → Told (λ names s. Allows names more (s h)) T (set T h met) before after
 told-set T h more met before after l e n a = record {
-    there = λ names s p m c k. there names s p m c k (split c h);
-    lower = λ c. low c (split c h);
-    only = λ c. only c (split c h);
-    kept = λ c i. subst (IsIn c) (sym a) (in-front c before (h ∷ []) i);
-    same_length = length-set T h met;
-    within = λ w. subst (Within (length T)) (sym a) (within-snoc (length T) h before w l);
-    less =
+  there = λ names s p m c k. there names s p m c k (split c h);
+  lower = λ c. low c (split c h);
+  only = λ c. only c (split c h);
+  kept = λ c i. subst (IsIn c) (sym a) (in-front c before (h ∷ []) i);
+  same_length = length-set T h met;
+  within = λ w. subst (Within (length T)) (sym a) (within-snoc (length T) h before w l);
+  less =
       let x = length-append before (h ∷ []) in let y : length after ≡ length (before ++ h ∷ []) = ap (λ z. length z) a in
       let q = freedom-set T h met l in
       let f : freedom_of met < freedom_of (asked_at T h) = subst (λ z. freedom_of z < freedom_of (asked_at T h)) (sym e) (freer (asked_at T h) more (λ p. n (e ∙ p))) in
-      omega (arith, x, y, q, f)
-  }
+      omega (arith, x, y, q, f);
+}
   where
     here : asked_at (set T h met) h ≡ both_of (asked_at T h) more
     here = asked-set T h met l ∙ e
@@ -159,14 +160,14 @@ told-set T h more met before after l e n a = record {
 
 pub told-on : (P Q : List TypeName → Assign → Type 0) (T U V : List Asked) (v w z : List ℕ) → Told P T U v w → Told Q U V w z → ((names : List TypeName) (s : Assign) → P names s → Meets names T s → Q names s) → Told P T V v z
 told-on P Q T U V v w z F G h = record {
-    there = λ names s p m. G.there names s (h names s p m) (F.there names s p m);
-    lower = λ c. below-on _ _ _ (F.lower c) (G.lower c);
-    only = λ c. go c (F.only c) (G.only c);
-    kept = λ c i. G.kept c (F.kept c i);
-    same_length = G.same_length ∙ F.same_length;
-    within = λ x. subst (λ n. Within n z) (F.same_length) (G.within (subst (λ n. Within n w) (sym F.same_length) (F.within x)));
-    less = let f = F.less in let g = G.less in omega (arith, f, g)
-  }
+  there = λ names s p m. G.there names s (h names s p m) (F.there names s p m);
+  lower = λ c. below-on _ _ _ (F.lower c) (G.lower c);
+  only = λ c. go c (F.only c) (G.only c);
+  kept = λ c i. G.kept c (F.kept c i);
+  same_length = G.same_length ∙ F.same_length;
+  within = λ x. subst (λ n. Within n z) (F.same_length) (G.within (subst (λ n. Within n w) (sym F.same_length) (F.within x)));
+  less = let f = F.less in let g = G.less in omega (arith, f, g);
+}
   where
     go : (c : ℕ) → (asked_at U c ≡ asked_at T c) ⊎ IsIn c w → (asked_at V c ≡ asked_at U c) ⊎ IsIn c z → (asked_at V c ≡ asked_at T c) ⊎ IsIn c z
     go c (inl a) (inl b) = inl (b ∙ a)
@@ -237,14 +238,14 @@ IsTyped names pool T n s = (n ≡ names) × Respects pool T s
 pub told-link : (names : List TypeName) (pool : List ℕ) (T : List Node) (A B : List Asked) (v w : List ℕ) (c d : ℕ) → length A ≡ length T → c < length T → at T c ≡ Link d
     → Told (λ n s. Allows n (asked_at A c) (s d)) A B v w → Told (IsTyped names pool T) A B v w
 told-link names pool T A B v w c d e l q F = record {
-    there = λ n s p m. F.there n s (subst (Allows n (asked_at A c)) (subst (Holds pool s c) q (p.1 c)) (m c (omega (arith, e, l)))) m;
-    lower = F.lower;
-    only = F.only;
-    kept = F.kept;
-    same_length = F.same_length;
-    within = F.within;
-    less = F.less
-  }
+  there = λ n s p m. F.there n s (subst (Allows n (asked_at A c)) (subst (Holds pool s c) q (p.1 c)) (m c (omega (arith, e, l)))) m;
+  lower = F.lower;
+  only = F.only;
+  kept = F.kept;
+  same_length = F.same_length;
+  within = F.within;
+  less = F.less;
+}
 
 pub taken : (i k : ℕ) → i + k - i ≡ k
 taken i k = omega arith
@@ -277,23 +278,23 @@ closes-mono names pool A B a (Link d) h k = below-on _ _ _ k (h d)
 
 pub spread-start : (names : List TypeName) (pool : List ℕ) (T : List Node) (A : List Asked) (w : List ℕ) → ClosedBut names pool T A w → Within (length T) w → Spread names pool T A A w
 spread-start names pool T A w c i = record {
-    there = λ s r m. m;
-    lower = λ c. below-refl _;
-    same_length = refl;
-    closed = c;
-    within = i
-  }
+  there = λ s r m. m;
+  lower = λ c. below-refl _;
+  same_length = refl;
+  closed = c;
+  within = i;
+}
 
 -- one class has told its parts
 pub spread-on : (names : List TypeName) (pool : List ℕ) (T : List Node) (A B C : List Asked) (v w z : List ℕ) (c : ℕ) → v ≡ w ++ c ∷ [] → length A ≡ length T → Spread names pool T A B v
     → Told (IsTyped names pool T) B C w z → Closes names pool C (asked_at B c) (at T c) → Spread names pool T A C z
 spread-on names pool T A B C v w z c e len F G k = record {
-    there = λ s r m. G.there names s (refl, r) (F.there s r m);
-    lower = λ d. below-on _ _ _ (F.lower d) (G.lower d);
-    same_length = G.same_length ∙ F.same_length;
-    closed = λ d l. closed d l (F.closed d l) (G.only d);
-    within = subst (λ n. Within n z) same (G.within (subst (λ n. Within n w) (sym same) (front w (subst (Within (length T)) e F.within))))
-  }
+  there = λ s r m. G.there names s (refl, r) (F.there s r m);
+  lower = λ d. below-on _ _ _ (F.lower d) (G.lower d);
+  same_length = G.same_length ∙ F.same_length;
+  closed = λ d l. closed d l (F.closed d l) (G.only d);
+  within = subst (λ n. Within n z) same (G.within (subst (λ n. Within n w) (sym same) (front w (subst (Within (length T)) e F.within))));
+}
   where
     same : length B ≡ length T
     same = F.same_length ∙ len
@@ -322,7 +323,7 @@ pub tell-on : (names : List TypeName) (pool : List ℕ) (T : List Node) (A B C :
     → Told (IsTyped names pool T) A B v w → Told (λ n s. Allows n more (s (get_or (part_list pool i (i + k - i)) j 0))) B C w z → Told (IsTyped names pool T) A C v z
 tell-on names pool T A B C v w z c f i k j more e l q o lj F G =
     told-part names pool T A B C v w z c f i k j more e l q o (subst (λ n. j < length (part_list pool i n)) (taken i k) lj) F
-      (subst (λ m. Told (λ n s. Allows n more (s (get_or (part_list pool i m) j 0))) B C w z) (taken i k) G)
+    (subst (λ m. Told (λ n s. Allows n more (s (get_or (part_list pool i m) j 0))) B C w z) (taken i k) G)
 
 pub tell-met : (B C : List Asked) (P : List TypeName → Assign → Type 0) (w z xs : List ℕ) (more : Asked) (i : ℕ) → Told P B C w z → ((j : ℕ) → j < i → Below more (asked_at B (get_or xs j 0))) → Below more (asked_at C (get_or xs i 0))
     → (j : ℕ) → j < i + 1 → Below more (asked_at C (get_or xs j 0))

@@ -41,10 +41,13 @@ all-over names b s (x ∷ xs) h = (h x (0, omega arith, refl), all-over names b 
 pub allows-made : (names : List TypeName) (pool : List ℕ) (A : List Asked) (own : Asked) (f i k : ℕ) (s : Assign) → Closes names pool A own (Made f i k) → f < length names → k ≡ (name_at names f).arity → length (part_list pool i k) ≡ k
     → ((d : ℕ) → IsIn d (part_list pool i k) → Allows names (asked_at A d) (s d)) → Allows names own (made f (terms_of s (part_list pool i k)))
 unfolding admits IsOver
-allows-made names pool A own f i k s (b, p, e) lf ar lk h =
-    (λ q. equal ((name_at names f).equality) (e q),
-     ((lf, b, count-terms s (part_list pool i k) ∙ lk ∙ ar),
-      all-over names own.birth s (part_list pool i k) (λ d y. over-mono names _ _ (p d y) (s d) ((h d y).1))))
+allows-made names pool A own f i k s (b, p, e) lf ar lk h = (
+  λ q. equal ((name_at names f).equality) (e q),
+  (
+    (lf, b, count-terms s (part_list pool i k) ∙ lk ∙ ar),
+    all-over names own.birth s (part_list pool i k) (λ d y. over-mono names _ _ (p d y) (s d) ((h d y).1)),
+  ),
+)
   where
     equal : (kind : Equality) → AsksParts kind ((d : ℕ) → IsIn d (part_list pool i k) → (asked_at A d).equality ≡ true) → by_parts (equality_by kind) (all_admit (equality_of names) of_flag (terms_of s (part_list pool i k))) ≡ true
     equal Never x = absurd x
@@ -60,7 +63,7 @@ meets-step names pool T A s fi so cl re c m v below = go (at T c) refl
     go Variable q = v q
     go (Made f i j) q = subst (Allows names (asked_at A c)) (sym (subst (Holds pool s c) q (re c)))
         (allows-made names pool A (asked_at A c) f i j s (subst (Closes names pool A (asked_at A c)) q (cl c m)) ((so c f i j q).0) ((so c f i j q).1) (part-length pool i j (subst (Fine pool c) q (fi c)))
-          (λ d y. below d (subst (λ z. Child pool z d) (sym q) y)))
+        (λ d y. below d (subst (λ z. Child pool z d) (sym q) y)))
     go (Link d) q = subst (Allows names (asked_at A c)) (sym (subst (Holds pool s c) q (re c)))
         (allows-below names (asked_at A c) (asked_at A d) (s d) (subst (Closes names pool A (asked_at A c)) q (cl c m)) (below d (subst (λ z. Child pool z d) (sym q) refl)))
 
@@ -81,10 +84,10 @@ free-allowed names a c = (λ q. q, tt)
 
 pub is-solved : (g : TypeGraph) → g.clashed ≡ false → IsFine g.parts g.nodes → Within (length g.nodes) g.parts → Sorted g.names g.nodes → length g.asked ≡ length g.nodes → IsSettled g.names g.parts g.nodes g.asked → Solved g
 is-solved g sound fi wi so len S = record {
-    each = λ v h. (by v, solves v h, λ c l q. at-variable g.parts g.nodes v r k c q);
-    only = λ s u a b h c l. unique g.parts g.nodes r s u k a.holds b.holds c (λ d p q. h d (reaches-in g.parts g.nodes c d fi wi p l) q);
-    some = (by free, solves free (λ c l q. free-allowed g.names (asked_at g.asked c) c))
-  }
+  each = λ v h. (by v, solves v h, λ c l q. at-variable g.parts g.nodes v r k c q);
+  only = λ s u a b h c l. unique g.parts g.nodes r s u k a.holds b.holds c (λ d p q. h d (reaches-in g.parts g.nodes c d fi wi p l) q);
+  some = (by free, solves free (λ c l q. free-allowed g.names (asked_at g.asked c) c));
+}
   where
     r : ℕ → ℕ
     r = S.ranks.0
@@ -97,11 +100,11 @@ is-solved g sound fi wi so len S = record {
 
     solves : (v : Assign) → ((c : ℕ) → c < length g.nodes → at g.nodes c ≡ Variable → Allows g.names (asked_at g.asked c) (v c)) → Solves g (by v)
     solves v h = record {
-        sound = sound;
-        holds = solvable g.parts g.nodes v r k;
-        meets = λ c l. meets-by g.names g.parts g.nodes g.asked r (by v) fi wi so S.closed k (solvable g.parts g.nodes v r k)
-          (λ d m q. subst (Allows g.names (asked_at g.asked d)) (sym (at-variable g.parts g.nodes v r k d q)) (h d m q)) (suc (r c)) c (omega arith) (omega (arith, len, l))
-      }
+      sound = sound;
+      holds = solvable g.parts g.nodes v r k;
+      meets = λ c l. meets-by g.names g.parts g.nodes g.asked r (by v) fi wi so S.closed k (solvable g.parts g.nodes v r k)
+          (λ d m q. subst (Allows g.names (asked_at g.asked d)) (sym (at-variable g.parts g.nodes v r k d q)) (h d m q)) (suc (r c)) c (omega arith) (omega (arith, len, l));
+    }
 
     free : Assign
     free c = variable ((asked_at g.asked c).equality) c

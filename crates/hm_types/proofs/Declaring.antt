@@ -44,6 +44,7 @@ takes-less N n b f k o (l, h, a) = go (place-of (length N) f)
 
 mutual
   unfolding IsOver AllOver
+
   over-more : (N : List TypeName) (n : TypeName) (b : ℕ) (t : Term ℕ) → IsOver (Takes N b) t → IsOver (Takes (N ++ n ∷ []) b) t
   over-more N n b (variable e m) h = tt
   over-more N n b (made f ts) (h, k) = (takes-more N n b f _ h, overs-more N n b ts k)
@@ -54,6 +55,7 @@ mutual
 
 mutual
   unfolding IsOver AllOver
+
   over-less : (N : List TypeName) (n : TypeName) (b : ℕ) → b < n.birth → (t : Term ℕ) → IsOver (Takes (N ++ n ∷ []) b) t → IsOver (Takes N b) t
   over-less N n b o (variable e m) h = tt
   over-less N n b o (made f ts) (h, k) = (takes-less N n b f _ o h, overs-less N n b o ts k)
@@ -64,6 +66,7 @@ mutual
 
 mutual
   unfolding IsOver AllOver admits all_admit
+
   admits-more : (N : List TypeName) (n : TypeName) (b : ℕ) (t : Term ℕ) → IsOver (Takes N b) t → admits (equality_of (N ++ n ∷ [])) of_flag t ≡ admits (equality_of N) of_flag t
   admits-more N n b (variable e m) h = refl
   admits-more N n b (made f ts) (h, k) = ap (λ z. by_parts (equality_by (z.equality)) (all_admit (equality_of (N ++ n ∷ [])) of_flag ts)) (name-old N n f (h.0)) ∙ ap (λ z. by_parts (equality_of N f) z) (all-more N n b ts k)
@@ -80,19 +83,19 @@ allows-less N n a t l (e, o) = (λ q. sym (admits-more N n a.birth t (over-less 
 
 pub declared-table : (N N2 : List TypeName) (n : TypeName) (pool : List ℕ) (T : List Node) (A : List Asked) (M : List ℕ) (stamp : ℕ) (clashed spent : Bool) → IsTable N pool T A M stamp clashed spent → N2 ≡ N ++ n ∷ [] → suc (length N) < 2 ^ 32 → n.birth ≡ length T → IsTable N2 pool T A M stamp clashed spent
 declared-table N N2 n pool T A M stamp clashed spent H q l b = subst (λ z. IsTable z pool T A M stamp clashed spent) (sym q) (record {
-    fine = H.fine;
-    within = H.within;
-    sorted = λ c f i k e. (let s = H.sorted c f i k e in (let x = s.0 in let y = one-longer N n in omega (arith, x, y), subst (λ z. k ≡ z.arity) (sym (name-old N n f (s.0))) (s.1)));
-    asks = H.asks;
-    marked = H.marked;
-    stamped = H.stamped;
-    few = H.few;
-    few_parts = H.few_parts;
-    few_names = (let y = one-longer N n in omega (arith, y, l));
-    born = H.born;
-    declared = λ f. declared f (place-of (length N) f);
-    settled = λ x y. (let S = H.settled x y in record { closed = λ c m. closed c m (at T c) refl (S.closed c m); ranks = S.ranks })
-  })
+  fine = H.fine;
+  within = H.within;
+  sorted = λ c f i k e. (let s = H.sorted c f i k e in (let x = s.0 in let y = one-longer N n in omega (arith, x, y), subst (λ z. k ≡ z.arity) (sym (name-old N n f (s.0))) (s.1)));
+  asks = H.asks;
+  marked = H.marked;
+  stamped = H.stamped;
+  few = H.few;
+  few_parts = H.few_parts;
+  few_names = (let y = one-longer N n in omega (arith, y, l));
+  born = H.born;
+  declared = λ f. declared f (place-of (length N) f);
+  settled = λ x y. (let S = H.settled x y in record { closed = λ c m. closed c m (at T c) refl (S.closed c m); ranks = S.ranks });
+})
   where
     declared : (f : ℕ) → Place (length N) f → (name_at (N ++ n ∷ []) f).birth ≤ length T
     declared f (old_place m) = subst (λ z. z.birth ≤ length T) (sym (name-old N n f m)) (H.declared f)
@@ -111,17 +114,17 @@ declared-solves g h n qn qp qt qa qc b len born s = (there, back)
   where
     there : Solves g s → Solves h s
     there S = record {
-        sound = qc ∙ S.sound;
-        holds = subst (λ z. Respects z h.nodes s) (sym qp) (subst (λ z. Respects g.parts z s) (sym qt) S.holds);
-        meets = subst (λ z. Meets z h.asked s) (sym qn) (subst (λ z. Meets (g.names ++ n ∷ []) z s) (sym qa) (λ c l. allows-more g.names n (asked_at g.asked c) (s c) (S.meets c l)))
-      }
+      sound = qc ∙ S.sound;
+      holds = subst (λ z. Respects z h.nodes s) (sym qp) (subst (λ z. Respects g.parts z s) (sym qt) S.holds);
+      meets = subst (λ z. Meets z h.asked s) (sym qn) (subst (λ z. Meets (g.names ++ n ∷ []) z s) (sym qa) (λ c l. allows-more g.names n (asked_at g.asked c) (s c) (S.meets c l)));
+    }
 
     back : Solves h s → Solves g s
     back S = record {
-        sound = sym qc ∙ S.sound;
-        holds = subst (λ z. Respects z g.nodes s) qp (subst (λ z. Respects h.parts z s) qt S.holds);
-        meets = λ c l. allows-less g.names n (asked_at g.asked c) (s c) (let x = born c (omega (arith, l, len)) in omega (arith, x, b)) (meets c l)
-      }
+      sound = sym qc ∙ S.sound;
+      holds = subst (λ z. Respects z g.nodes s) qp (subst (λ z. Respects h.parts z s) qt S.holds);
+      meets = λ c l. allows-less g.names n (asked_at g.asked c) (s c) (let x = born c (omega (arith, l, len)) in omega (arith, x, b)) (meets c l);
+    }
       where
         meets : Meets (g.names ++ n ∷ []) g.asked s
         meets = subst (λ z. Meets z g.asked s) qn (subst (λ z. Meets h.names z s) qa S.meets)

@@ -63,7 +63,6 @@ holds-old pool more s c Variable f = (λ h. tt, λ h. tt)
 holds-old pool more s c (Made g i k) f = (λ h. h ∙ ap (λ z. made g (terms_of s z)) (sym (part-old pool more i k f)), λ h. h ∙ ap (λ z. made g (terms_of s z)) (part-old pool more i k f))
 holds-old pool more s c (Link d) f = (λ h. h, λ h. h)
 
-
 -- the old classes of a table with one class more
 pub older-holds : (pool more : List ℕ) (T : List Node) (v : Node) (s : Assign) → IsFine pool T → Respects (pool ++ more) (T ++ v ∷ []) s → Respects pool T s
 older-holds pool more T v s fi r c = go (place-of (length T) c)
@@ -105,19 +104,19 @@ more-meets names A a s m h c l = go (place-of (length A) c)
 pub one-more : (g h : TypeGraph) (more : List ℕ) (v : Node) (a : Asked) (P : Assign → Type 0) → IsFine g.parts g.nodes → length g.asked ≡ length g.nodes → h.names ≡ g.names → h.parts ≡ g.parts ++ more → h.nodes ≡ g.nodes ++ v ∷ [] → h.asked ≡ g.asked ++ a ∷ [] → h.clashed ≡ g.clashed
     → ((s : Assign) → Holds (g.parts ++ more) s (length g.nodes) v → Allows g.names a (s (length g.nodes)) → P s) → ((s : Assign) → Solves g s → P s → Holds (g.parts ++ more) s (length g.nodes) v × Allows g.names a (s (length g.nodes))) → Joins g h P
 one-more g h more v a P fi len qn qp qt qa qc out in_ = record {
-    old = λ s S. record {
-        sound = sym qc ∙ S.sound;
-        holds = older-holds g.parts more g.nodes v s fi (holds s S);
-        meets = older-meets g.names g.asked a s (meets s S)
-      };
-    new = λ s S. out s (subst (Holds (g.parts ++ more) s (length g.nodes)) (at-new g.nodes v) (holds s S (length g.nodes)))
+  old = λ s S. record {
+    sound = sym qc ∙ S.sound;
+    holds = older-holds g.parts more g.nodes v s fi (holds s S);
+    meets = older-meets g.names g.asked a s (meets s S);
+  };
+  new = λ s S. out s (subst (Holds (g.parts ++ more) s (length g.nodes)) (at-new g.nodes v) (holds s S (length g.nodes)))
       (subst (λ z. Allows g.names a (s z)) len (subst (λ z. Allows g.names z (s (length g.asked))) (asked-new g.asked a) (meets s S (length g.asked) (let q = length-append g.asked (a ∷ []) in omega (arith, q)))));
-    both = λ s S p. record {
-        sound = qc ∙ S.sound;
-        holds = subst (λ z. Respects z h.nodes s) (sym qp) (subst (λ z. Respects (g.parts ++ more) z s) (sym qt) (more-holds g.parts more g.nodes v s fi S.holds ((in_ s S p).0)));
-        meets = subst (λ z. Meets z h.asked s) (sym qn) (subst (λ z. Meets g.names z s) (sym qa) (more-meets g.names g.asked a s S.meets (subst (λ z. Allows g.names a (s z)) (sym len) ((in_ s S p).1))))
-      }
-  }
+  both = λ s S p. record {
+    sound = qc ∙ S.sound;
+    holds = subst (λ z. Respects z h.nodes s) (sym qp) (subst (λ z. Respects (g.parts ++ more) z s) (sym qt) (more-holds g.parts more g.nodes v s fi S.holds ((in_ s S p).0)));
+    meets = subst (λ z. Meets z h.asked s) (sym qn) (subst (λ z. Meets g.names z s) (sym qa) (more-meets g.names g.asked a s S.meets (subst (λ z. Allows g.names a (s z)) (sym len) ((in_ s S p).1))));
+  };
+}
   where
     holds : (s : Assign) → Solves h s → Respects (g.parts ++ more) (g.nodes ++ v ∷ []) s
     holds s S = subst (λ z. Respects z (g.nodes ++ v ∷ []) s) qp (subst (λ z. Respects h.parts z s) qt S.holds)
@@ -166,19 +165,19 @@ pub table-more : (names : List TypeName) (pool more : List ℕ) (T : List Node) 
     → Fine (pool ++ more) (length T) v → Within (length T) more → length pool + length more < 2 ^ 32 → suc (length T) < 2 ^ 32 → ((f i k : ℕ) → v ≡ Made f i k → (f < length names) × (k ≡ (name_at names f).arity) × ((d : ℕ) → IsIn d (part_list (pool ++ more) i k) → d < length T))
     → ((d : ℕ) → v ≡ Link d → ⊥) → a.birth ≡ length T → (v ≡ Variable → ⊥) ⊎ (v ≡ Variable) → (a.equality ≡ true → v ≡ Variable) → IsTable names (pool ++ more) (T ++ v ∷ []) (A ++ a ∷ []) (M ++ 0 ∷ []) stamp clashed spent
 table-more names pool more T A M stamp clashed spent v a H f w lp lt so nl bi vv eq = record {
-    fine = fine-more pool more T v H.fine f;
-    within = within-more (length T) (length (T ++ v ∷ [])) pool more (omega (arith, len)) H.within (λ i l. let x = w i l in omega (arith, x, len));
-    sorted = λ c g i k q. sorted c g i k q (place-of (length T) c);
-    asks = omega (arith, len, lena, lenAT);
-    marked = (let x = length-append M (0 ∷ []) in let y = H.marked in omega (arith, x, y, len));
-    stamped = λ c. (let x = mark-old M c in let y = H.stamped c in omega (arith, x, y));
-    few = omega (arith, len, lt);
-    few_parts = (let x = length-append pool more in omega (arith, x, lp));
-    few_names = H.few_names;
-    born = λ c l. born c l (place-of (length T) c);
-    declared = λ g. (let x = H.declared g in omega (arith, x, len));
-    settled = λ p q. settled (H.settled p q)
-  }
+  fine = fine-more pool more T v H.fine f;
+  within = within-more (length T) (length (T ++ v ∷ [])) pool more (omega (arith, len)) H.within (λ i l. let x = w i l in omega (arith, x, len));
+  sorted = λ c g i k q. sorted c g i k q (place-of (length T) c);
+  asks = omega (arith, len, lena, lenAT);
+  marked = (let x = length-append M (0 ∷ []) in let y = H.marked in omega (arith, x, y, len));
+  stamped = λ c. (let x = mark-old M c in let y = H.stamped c in omega (arith, x, y));
+  few = omega (arith, len, lt);
+  few_parts = (let x = length-append pool more in omega (arith, x, lp));
+  few_names = H.few_names;
+  born = λ c l. born c l (place-of (length T) c);
+  declared = λ g. (let x = H.declared g in omega (arith, x, len));
+  settled = λ p q. settled (H.settled p q);
+}
   where
     len : length (T ++ v ∷ []) ≡ suc (length T)
     len = let x = length-append T (v ∷ []) in omega (arith, x)
@@ -211,9 +210,11 @@ table-more names pool more T A M stamp clashed spent v a H f w lp lt so nl bi vv
 
     closes-old : (c : ℕ) (w : Node) (b : Asked) → Fine pool c w → c < length T → ((d : ℕ) → Child pool w d → d < length T) → Closes names pool A b w → Closes names (pool ++ more) (A ++ a ∷ []) b w
     closes-old c Variable b f l in_ k = tt
-    closes-old c (Made g i n) b f l in_ (x, y, z) = (x,
-        λ d j. subst (λ u. u.birth ≤ b.birth) (sym (old-asked d (in_ d (back d j)))) (y d (back d j)),
-        λ e. go ((name_at names g).equality) (z e))
+    closes-old c (Made g i n) b f l in_ (x, y, z) = (
+      x,
+      λ d j. subst (λ u. u.birth ≤ b.birth) (sym (old-asked d (in_ d (back d j)))) (y d (back d j)),
+      λ e. go ((name_at names g).equality) (z e),
+    )
       where
         back : (d : ℕ) → IsIn d (part_list (pool ++ more) i n) → IsIn d (part_list pool i n)
         back d j = subst (IsIn d) (part-old pool more i n f) j
@@ -248,9 +249,9 @@ table-more names pool more T A M stamp clashed spent v a H f w lp lt so nl bi vv
 
     settled : IsSettled names pool T A → IsSettled names (pool ++ more) (T ++ v ∷ []) (A ++ a ∷ [])
     settled S = record {
-        closed = λ c l. closed S.closed c l (place-of (length T) c);
-        ranks = (higher (length T) (S.ranks.0), λ c d i. falls c d i (place-of (length T) c))
-      }
+      closed = λ c l. closed S.closed c l (place-of (length T) c);
+      ranks = (higher (length T) (S.ranks.0), λ c d i. falls c d i (place-of (length T) c));
+    }
       where
         r : ℕ → ℕ
         r = S.ranks.0
@@ -267,19 +268,19 @@ table-more names pool more T A M stamp clashed spent v a H f w lp lt so nl bi vv
 
 none-table : IsTable [] [] [] [] [] 0 false false
 none-table = record {
-    fine = λ c. tt;
-    within = λ i l. absurd (omega (arith, l));
-    sorted = λ c f i k q. absurd (cc);
-    asks = refl;
-    marked = refl;
-    stamped = λ c. omega arith;
-    few = omega arith;
-    few_parts = omega arith;
-    few_names = omega arith;
-    born = λ c l. absurd (omega (arith, l));
-    declared = λ f. omega arith;
-    settled = λ p q. record { closed = λ c l. absurd (omega (arith, l)); ranks = (λ c. 0, λ c d i. absurd i) }
-  }
+  fine = λ c. tt;
+  within = λ i l. absurd (omega (arith, l));
+  sorted = λ c f i k q. absurd (cc);
+  asks = refl;
+  marked = refl;
+  stamped = λ c. omega arith;
+  few = omega arith;
+  few_parts = omega arith;
+  few_names = omega arith;
+  born = λ c l. absurd (omega (arith, l));
+  declared = λ f. omega arith;
+  settled = λ p q. record { closed = λ c l. absurd (omega (arith, l)); ranks = (λ c. 0, λ c d i. absurd i) };
+}
 
 pub empty-table : (N : List TypeName) (P : List ℕ) (T : List Node) (A : List Asked) (M : List ℕ) → N ≡ [] → P ≡ [] → T ≡ [] → A ≡ [] → M ≡ [] → IsTable N P T A M 0 false false
 empty-table N P T A M qn qp qt qa qm = subst (λ z. IsTable z P T A M 0 false false) (sym qn) (subst (λ z. IsTable [] z T A M 0 false false) (sym qp) (subst (λ z. IsTable [] [] z A M 0 false false) (sym qt) (subst (λ z. IsTable [] [] [] z M 0 false false) (sym qa) (subst (λ z. IsTable [] [] [] [] z 0 false false) (sym qm) none-table))))
@@ -293,8 +294,8 @@ pub var-table : (names : List TypeName) (pool : List ℕ) (T T2 : List Node) (A 
     → suc (length T) < 2 ^ 32 → a.birth ≡ length T → IsTable names pool T2 A2 M2 stamp clashed spent
 var-table names pool T T2 A A2 M M2 stamp clashed spent a H qt qa qm l b =
     subst (λ z. IsTable names pool z A2 M2 stamp clashed spent) (sym qt) (subst (λ z. IsTable names pool (T ++ Variable ∷ []) z M2 stamp clashed spent) (sym qa) (subst (λ z. IsTable names pool (T ++ Variable ∷ []) (A ++ a ∷ []) z stamp clashed spent) (sym qm)
-      (subst (λ z. IsTable names z (T ++ Variable ∷ []) (A ++ a ∷ []) (M ++ 0 ∷ []) stamp clashed spent) (append-nil pool)
-        (table-more names pool [] T A M stamp clashed spent Variable a H tt (λ i k. absurd (omega (arith, k))) (let x = H.few_parts in omega (arith, x)) l (λ f i k q. absurd (cc)) (λ d q. absurd (cc)) b (inr refl) (λ e. refl)))))
+    (subst (λ z. IsTable names z (T ++ Variable ∷ []) (A ++ a ∷ []) (M ++ 0 ∷ []) stamp clashed spent) (append-nil pool)
+    (table-more names pool [] T A M stamp clashed spent Variable a H tt (λ i k. absurd (omega (arith, k))) (let x = H.few_parts in omega (arith, x)) l (λ f i k q. absurd (cc)) (λ d q. absurd (cc)) b (inr refl) (λ e. refl)))))
 
 pub var-joins : (g h : TypeGraph) (a : Asked) (c : ℕ) → c ≡ length g.nodes → IsFine g.parts g.nodes → length g.asked ≡ length g.nodes → h.names ≡ g.names → h.parts ≡ g.parts → h.nodes ≡ g.nodes ++ Variable ∷ [] → h.asked ≡ g.asked ++ a ∷ [] → h.clashed ≡ g.clashed
     → Joins g h (λ s. Allows g.names a (s c))
@@ -306,15 +307,17 @@ pub con-table : (names : List TypeName) (pool more pool2 : List ℕ) (T T2 : Lis
     → n ≡ length more → suc (length T) < 2 ^ 32 → length pool + length more < 2 ^ 32 → f < length names → length more ≡ (name_at names f).arity → Within (length T) more → a.equality ≡ false → a.birth ≡ length T → IsTable names pool2 T2 A2 M2 stamp clashed spent
 con-table names pool more pool2 T T2 A A2 M M2 stamp clashed spent f n a H qp qt qa qm e l lp lf ar w ae b =
     subst (λ z. IsTable names z T2 A2 M2 stamp clashed spent) (sym qp) (subst (λ z. IsTable names (pool ++ more) z A2 M2 stamp clashed spent) (sym (qt ∙ ap (λ z. T ++ Made f (length pool) z ∷ []) e)) (subst (λ z. IsTable names (pool ++ more) (T ++ Made f (length pool) (length more) ∷ []) z M2 stamp clashed spent) (sym qa)
-      (subst (λ z. IsTable names (pool ++ more) (T ++ Made f (length pool) (length more) ∷ []) (A ++ a ∷ []) z stamp clashed spent) (sym qm)
-        (table-more names pool more T A M stamp clashed spent (Made f (length pool) (length more)) a H (let x = length-append pool more in omega (arith, x)) w lp l
-          (λ g i k q. made-is g i k q) (λ d q. absurd (cc)) b (inl (λ q. absurd (cc))) (λ q. absurd (let x : true ≡ false = sym q ∙ ae in cc))))))
+    (subst (λ z. IsTable names (pool ++ more) (T ++ Made f (length pool) (length more) ∷ []) (A ++ a ∷ []) z stamp clashed spent) (sym qm)
+    (table-more names pool more T A M stamp clashed spent (Made f (length pool) (length more)) a H (let x = length-append pool more in omega (arith, x)) w lp l
+    (λ g i k q. made-is g i k q) (λ d q. absurd (cc)) b (inl (λ q. absurd (cc))) (λ q. absurd (let x : true ≡ false = sym q ∙ ae in cc))))))
   where
     made-is : (g i k : ℕ) → Made f (length pool) (length more) ≡ Made g i k → (g < length names) × (k ≡ (name_at names g).arity) × ((d : ℕ) → IsIn d (part_list (pool ++ more) i k) → d < length T)
     made-is g i k q =
-        let qg : f ≡ g = cc in let qi : length pool ≡ i = cc in let qk : length more ≡ k = cc in
-        (subst (λ z. z < length names) qg lf, subst (λ z. k ≡ (name_at names z).arity) qg (sym qk ∙ ar),
-         λ d j. in-more d (subst (IsIn d) (ap (λ z. part_list (pool ++ more) z k) (sym qi) ∙ ap (λ z. part_list (pool ++ more) (length pool) z) (sym qk) ∙ last-parts pool more) j))
+        let qg : f ≡ g = cc in let qi : length pool ≡ i = cc in let qk : length more ≡ k = cc in (
+          subst (λ z. z < length names) qg lf,
+          subst (λ z. k ≡ (name_at names z).arity) qg (sym qk ∙ ar),
+          λ d j. in-more d (subst (IsIn d) (ap (λ z. part_list (pool ++ more) z k) (sym qi) ∙ ap (λ z. part_list (pool ++ more) (length pool) z) (sym qk) ∙ last-parts pool more) j),
+        )
       where
         in-more : (d : ℕ) → IsIn d more → d < length T
         in-more d (j, m, q) = subst (λ z. z < length T) q (w j m)
@@ -324,8 +327,8 @@ pub con-joins : (g h : TypeGraph) (more : List ℕ) (f n : ℕ) (a : Asked) (c :
     → Joins g h (λ s. s c ≡ made f (terms_of s more))
 con-joins g h more f n a c e fi len qn qp qt qa qc qm ae ab lf ar w born declared = subst (λ z. Joins g h (λ s. s z ≡ made f (terms_of s more))) (sym e)
     (one-more g h more (Made f (length g.parts) n) a (λ s. s (length g.nodes) ≡ made f (terms_of s more)) fi len qn qp qt qa qc
-      (λ s x y. x ∙ ap (λ z. made f (terms_of s z)) parts-are)
-      (λ s S p. (p ∙ ap (λ z. made f (terms_of s z)) (sym parts-are), subst (Allows g.names a) (sym p) (allowed s S))))
+    (λ s x y. x ∙ ap (λ z. made f (terms_of s z)) parts-are)
+    (λ s S p. (p ∙ ap (λ z. made f (terms_of s z)) (sym parts-are), subst (Allows g.names a) (sym p) (allowed s S))))
   where
     parts-are : part_list (g.parts ++ more) (length g.parts) n ≡ more
     parts-are = ap (λ z. part_list (g.parts ++ more) (length g.parts) z) qm ∙ last-parts g.parts more

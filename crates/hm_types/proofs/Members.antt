@@ -53,10 +53,10 @@ frame-same T before = record { kept = λ c i. i; same = λ c. inl refl; within =
 pub frame-two : (old new : List Node) (before after : List ℕ) (p q : ℕ) → after ≡ (before ++ p ∷ []) ++ q ∷ [] → p < length old → q < length old
     → ((c : ℕ) → (c ≡ p → ⊥) → (c ≡ q → ⊥) → at new c ≡ at old c) → Frame old new before after
 frame-two old new before after p q e lp lq h = record {
-    kept = λ c i. subst (IsIn c) (sym e) (in-front c (before ++ p ∷ []) (q ∷ []) (in-front c before (p ∷ []) i));
-    same = λ c. go c (split c p) (split c q);
-    within = λ w. subst (Within (length old)) (sym e) (within-snoc (length old) q (before ++ p ∷ []) (within-snoc (length old) p before w lp) lq)
-  }
+  kept = λ c i. subst (IsIn c) (sym e) (in-front c (before ++ p ∷ []) (q ∷ []) (in-front c before (p ∷ []) i));
+  same = λ c. go c (split c p) (split c q);
+  within = λ w. subst (Within (length old)) (sym e) (within-snoc (length old) q (before ++ p ∷ []) (within-snoc (length old) p before w lp) lq);
+}
   where
     go : (c : ℕ) → (c ≡ p) ⊎ (c ≢ p) → (c ≡ q) ⊎ (c ≢ q) → (at new c ≡ at old c) ⊎ IsIn c after
     go c (inl a) b = inr (subst (IsIn c) (sym e) (subst (λ z. IsIn z ((before ++ p ∷ []) ++ q ∷ [])) (sym a) (in-front p (before ++ p ∷ []) (q ∷ []) (last-in p before))))
@@ -65,10 +65,10 @@ frame-two old new before after p q e lp lq h = record {
 
 pub frame-on : (T U V : List Node) (xs ys zs : List ℕ) → length U ≡ length T → Frame T U xs ys → Frame U V ys zs → Frame T V xs zs
 frame-on T U V xs ys zs n F G = record {
-    kept = λ c i. G.kept c (F.kept c i);
-    same = λ c. go c (F.same c) (G.same c);
-    within = λ w. subst (λ z. Within z zs) n (G.within (subst (λ z. Within z ys) (sym n) (F.within w)))
-  }
+  kept = λ c i. G.kept c (F.kept c i);
+  same = λ c. go c (F.same c) (G.same c);
+  within = λ w. subst (λ z. Within z zs) n (G.within (subst (λ z. Within z ys) (sym n) (F.within w)));
+}
   where
     go : (c : ℕ) → (at U c ≡ at T c) ⊎ IsIn c ys → (at V c ≡ at U c) ⊎ IsIn c zs → (at V c ≡ at T c) ⊎ IsIn c zs
     go c (inl a) (inl b) = inl (b ∙ a)

@@ -58,11 +58,11 @@ snoc-last (y ∷ xs) x = snoc-last xs x
 
 pub numbered-open : (pool : List ℕ) (T : List Node) (A : List Asked) (marks : List ℕ) (floor stamp part : ℕ) → Numbered pool T A marks floor stamp → part < length T → mark_at marks part < floor → Numbered pool T A (set marks part floor) floor stamp
 numbered-open pool T A marks floor stamp part N l m = record {
-    long = length-set marks part floor ∙ N.long;
-    after = N.after;
-    below = λ c. below c (split c part);
-    falls = λ c d f i. falls c d f i (split c part) (split d part)
-  }
+  long = length-set marks part floor ∙ N.long;
+  after = N.after;
+  below = λ c. below c (split c part);
+  falls = λ c d f i. falls c d f i (split c part) (split d part);
+}
   where
     lm : part < length marks
     lm = let q = N.long in omega (arith, q, l)
@@ -88,12 +88,12 @@ numbered-open pool T A marks floor stamp part N l m = record {
 pub path-open : (pool : List ℕ) (T : List Node) (marks path after : List ℕ) (floor top part : ℕ) → IsPath pool T marks floor path → top ≡ get_or path (length path - 1) 0 → (0 < length path → Child pool (at T top) part) → part < length T → mark_at marks part < floor
     → length marks ≡ length T → after ≡ path ++ part ∷ [] → IsPath pool T (set marks part floor) floor after
 path-open pool T marks path after floor top part P t ch l m len a = subst (IsPath pool T (set marks part floor) floor) (sym a) (record {
-    within = λ p k. within-snoc (length T) part path P.within l p k;
-    opened = λ p k. opened p k (place p k);
-    apart = λ p q k j e. apart p q k j e (place q j);
-    leads = λ p k. leads p k (place (suc p) k);
-    all = λ c e. all c e (split c part)
-  })
+  within = λ p k. within-snoc (length T) part path P.within l p k;
+  opened = λ p k. opened p k (place p k);
+  apart = λ p q k j e. apart p q k j e (place q j);
+  leads = λ p k. leads p k (place (suc p) k);
+  all = λ c e. all c e (split c part);
+})
   where
     more : List ℕ
     more = path ++ part ∷ []
@@ -145,11 +145,11 @@ path-open pool T marks path after floor top part P t ch l m len a = subst (IsPat
 pub numbered-done : (pool : List ℕ) (T : List Node) (A : List Asked) (marks : List ℕ) (floor stamp top : ℕ) → Numbered pool T A marks floor stamp → top < length T → mark_at marks top ≡ floor
     → ((d : ℕ) → Child pool (at T top) d → IsReady A marks floor ((asked_at A top).birth) d) → Numbered pool T A (set marks top (stamp + 1)) floor (stamp + 1)
 numbered-done pool T A marks floor stamp top N l m ready = record {
-    long = length-set marks top (stamp + 1) ∙ N.long;
-    after = let a = N.after in omega (arith, a);
-    below = λ c. below c (split c top);
-    falls = λ c d f i. falls c d f i (split c top) (split d top)
-  }
+  long = length-set marks top (stamp + 1) ∙ N.long;
+  after = let a = N.after in omega (arith, a);
+  below = λ c. below c (split c top);
+  falls = λ c d f i. falls c d f i (split c top) (split d top);
+}
   where
     lm : top < length marks
     lm = let q = N.long in omega (arith, q, l)
@@ -183,12 +183,12 @@ numbered-done pool T A marks floor stamp top N l m ready = record {
 pub path-done : (pool : List ℕ) (T : List Node) (marks path rest : List ℕ) (floor v top : ℕ) → IsPath pool T marks floor path → 0 < length path → top ≡ get_or path (length path - 1) 0 → top < length marks → floor < v → rest ≡ take (length path - 1) path
     → IsPath pool T (set marks top v) floor rest
 path-done pool T marks path rest floor v top P some t lm f a = subst (IsPath pool T (set marks top v) floor) (sym a) (record {
-    within = λ p k. subst (λ z. z < length T) (sym (old p k)) (P.within p (longer p k));
-    opened = λ p k. ap (λ z. mark_at (set marks top v) z) (old p k) ∙ mark-other marks top v (get_or path p 0) (not-top p k) ∙ P.opened p (longer p k);
-    apart = λ p q k j e. P.apart p q k (longer q j) (sym (old p (omega (arith, k, j))) ∙ e ∙ old q j);
-    leads = λ p k. subst (λ z. Child pool (at T z) (get_or less (suc p) 0)) (sym (old p (omega (arith, k)))) (subst (Child pool (at T (get_or path p 0))) (sym (old (suc p) k)) (P.leads p (longer (suc p) k)));
-    all = λ c e. all c e (split c top)
-  })
+  within = λ p k. subst (λ z. z < length T) (sym (old p k)) (P.within p (longer p k));
+  opened = λ p k. ap (λ z. mark_at (set marks top v) z) (old p k) ∙ mark-other marks top v (get_or path p 0) (not-top p k) ∙ P.opened p (longer p k);
+  apart = λ p q k j e. P.apart p q k (longer q j) (sym (old p (omega (arith, k, j))) ∙ e ∙ old q j);
+  leads = λ p k. subst (λ z. Child pool (at T z) (get_or less (suc p) 0)) (sym (old p (omega (arith, k)))) (subst (Child pool (at T (get_or path p 0))) (sym (old (suc p) k)) (P.leads p (longer (suc p) k)));
+  all = λ c e. all c e (split c top);
+})
   where
     less : List ℕ
     less = take (length path - 1) path
@@ -244,10 +244,11 @@ top-within pool T marks path floor top P k t = (subst (λ z. z < length T) (sym 
 pub turn-done : (pool : List ℕ) (T : List Node) (A : List Asked) (marks path rest : List ℕ) (floor stamp st n top : ℕ) → Numbered pool T A marks floor stamp → IsPath pool T marks floor path → length path ≡ n → 0 < n → top ≡ get_or path (n - 1) top
     → ((d : ℕ) → Child pool (at T top) d → IsReady A marks floor ((asked_at A top).birth) d) → st ≡ stamp + 1 → rest ≡ take (n - 1) path
     → Numbered pool T A (set marks top st) floor st × IsPath pool T (set marks top st) floor rest × ((c : ℕ) → floor ≤ mark_at marks c → floor ≤ mark_at (set marks top st) c)
-turn-done pool T A marks path rest floor stamp st n top N P l k t ready e a = subst (λ v. Numbered pool T A (set marks top v) floor v × IsPath pool T (set marks top v) floor rest × ((c : ℕ) → floor ≤ mark_at marks c → floor ≤ mark_at (set marks top v) c)) (sym e)
-    (numbered-done pool T A marks floor stamp top N (w.0) (w.1) ready,
-     path-done pool T marks path rest floor (stamp + 1) top P some t' lm over (a ∙ ap (λ z. take (z - 1) path) (sym l)),
-     λ c f. seen-on floor marks top (stamp + 1) c lm (omega (arith, over)) f)
+turn-done pool T A marks path rest floor stamp st n top N P l k t ready e a = subst (λ v. Numbered pool T A (set marks top v) floor v × IsPath pool T (set marks top v) floor rest × ((c : ℕ) → floor ≤ mark_at marks c → floor ≤ mark_at (set marks top v) c)) (sym e) (
+  numbered-done pool T A marks floor stamp top N (w.0) (w.1) ready,
+  path-done pool T marks path rest floor (stamp + 1) top P some t' lm over (a ∙ ap (λ z. take (z - 1) path) (sym l)),
+  λ c f. seen-on floor marks top (stamp + 1) c lm (omega (arith, over)) f,
+)
   where
     some : 0 < length path
     some = omega (arith, l, k)
@@ -277,10 +278,11 @@ turn-done-less pool T A marks path rest floor stamp st n top N P l k t e a =
 pub turn-open : (pool : List ℕ) (T : List Node) (A : List Asked) (marks path after : List ℕ) (floor stamp n top part : ℕ) → Numbered pool T A marks floor stamp → IsPath pool T marks floor path → length path ≡ n → 0 < n → top ≡ get_or path (n - 1) top
     → Child pool (at T top) part × (part < length T) × (mark_at marks part ≤ floor) → (mark_at marks part ≡ floor → ⊥) → after ≡ path ++ part ∷ []
     → Numbered pool T A (set marks part floor) floor stamp × IsPath pool T (set marks part floor) floor after × ((c : ℕ) → floor ≤ mark_at marks c → floor ≤ mark_at (set marks part floor) c)
-turn-open pool T A marks path after floor stamp n top part N P l k t (ch, lp, m) ne a =
-    (numbered-open pool T A marks floor stamp part N lp (omega (arith, m, ne)),
-     path-open pool T marks path after floor top part P (top-of path n top l k t) (λ _. ch) lp (omega (arith, m, ne)) N.long a,
-     λ c f. seen-on floor marks part floor c (let y = N.long in omega (arith, lp, y)) (omega arith) f)
+turn-open pool T A marks path after floor stamp n top part N P l k t (ch, lp, m) ne a = (
+  numbered-open pool T A marks floor stamp part N lp (omega (arith, m, ne)),
+  path-open pool T marks path after floor top part P (top-of path n top l k t) (λ _. ch) lp (omega (arith, m, ne)) N.long a,
+  λ c f. seen-on floor marks part floor c (let y = N.long in omega (arith, lp, y)) (omega arith) f,
+)
 
 pub turn-open-less : (pool : List ℕ) (T : List Node) (A : List Asked) (marks path after : List ℕ) (floor stamp top part : ℕ) → Numbered pool T A marks floor stamp
     → Child pool (at T top) part × (part < length T) × (mark_at marks part ≤ floor) → (mark_at marks part ≡ floor → ⊥) → after ≡ path ++ part ∷ []
@@ -319,11 +321,11 @@ stamped-set T marks h v stamp l k (n, b) = (length-set marks h v ∙ n, λ c. go
 
 pub list-open : (T : List Node) (marks path path2 order : List ℕ) (floor stamp part : ℕ) → Listing T marks path order floor stamp → part < length T → path2 ≡ path ++ part ∷ [] → Listing T (set marks part floor) path2 order floor stamp
 list-open T marks path path2 order floor stamp part L l a = record {
-    stamped = stamped-set T marks part floor stamp l L.after L.stamped;
-    after = L.after;
-    path_in = subst (Within (length T)) (sym a) (within-snoc (length T) part path L.path_in l);
-    order_in = L.order_in
-  }
+  stamped = stamped-set T marks part floor stamp l L.after L.stamped;
+  after = L.after;
+  path_in = subst (Within (length T)) (sym a) (within-snoc (length T) part path L.path_in l);
+  order_in = L.order_in;
+}
 
 pub list-open-less : (T : List Node) (marks path path2 order : List ℕ) (floor stamp part : ℕ) → Listing T marks path order floor stamp → part < length T → mark_at marks part ≤ floor → (mark_at marks part ≡ floor → ⊥) → path2 ≡ path ++ part ∷ []
     → length path2 + (unseen floor (set marks part floor) + unseen floor (set marks part floor)) < length path + (unseen floor marks + unseen floor marks)
@@ -338,11 +340,11 @@ shorter n path k w i l = let x = length-take k path in let y : i < k = grind (ar
 
 pub list-done : (T : List Node) (marks path path2 order order2 : List ℕ) (floor stamp st n top : ℕ) → Listing T marks path order floor stamp → length path ≡ n → 0 < n → top ≡ get_or path (n - 1) top → st ≡ stamp + 1 → path2 ≡ take (n - 1) path → order2 ≡ order ++ top ∷ [] → Listing T (set marks top st) path2 order2 floor st
 list-done T marks path path2 order order2 floor stamp st n top L l k t e a b = subst (λ v. Listing T (set marks top v) path2 order2 floor v) (sym e) (record {
-    stamped = stamped-set T marks top (stamp + 1) (stamp + 1) lt (omega arith) (L.stamped.0, λ c. (let x = L.stamped.1 c in omega (arith, x)));
-    after = (let x = L.after in omega (arith, x));
-    path_in = subst (Within (length T)) (sym a) (shorter (length T) path (n - 1) L.path_in);
-    order_in = subst (Within (length T)) (sym b) (within-snoc (length T) top order L.order_in lt)
-  })
+  stamped = stamped-set T marks top (stamp + 1) (stamp + 1) lt (omega arith) (L.stamped.0, λ c. (let x = L.stamped.1 c in omega (arith, x)));
+  after = (let x = L.after in omega (arith, x));
+  path_in = subst (Within (length T)) (sym a) (shorter (length T) path (n - 1) L.path_in);
+  order_in = subst (Within (length T)) (sym b) (within-snoc (length T) top order L.order_in lt);
+})
   where
     lt : top < length T
     lt = subst (λ z. z < length T) (sym (top-of path n top l k t)) (L.path_in (length path - 1) (omega (arith, l, k)))

@@ -47,33 +47,33 @@ in-len n m w q h = subst (λ z. PairsIn z w) q h
 pub high-free : (pool : List ℕ) (T : List Node) (low high : ℕ) (w : List (ℕ × ℕ)) → IsFine pool T → high < length T → low < high → at T high ≡ Variable → PairsIn (length T) w → Steps pool T ((low, high) ∷ w) (set T high (Link low)) w
 unfolding Pairs
 high-free pool T low high w fi hi lo is inw = record {
-    there = λ s r p. (respects-set pool T high (Link low) s hi r (sym (p.0)), p.1);
-    back = λ s r p. (respects-unset pool T high (Link low) s r (subst (Holds pool s high) (sym is) tt), (sym (respects-at pool T high (Link low) s hi r), p));
-    fine = fine-set pool T high (Link low) hi fi lo;
-    same_length = length-set T high (Link low);
-    pairs_in = in-len _ _ w (sym (length-set T high (Link low))) inw;
-    comes = λ c f i k e. (c, comes-link T high low c f i k hi e)
-  }
+  there = λ s r p. (respects-set pool T high (Link low) s hi r (sym (p.0)), p.1);
+  back = λ s r p. (respects-unset pool T high (Link low) s r (subst (Holds pool s high) (sym is) tt), (sym (respects-at pool T high (Link low) s hi r), p));
+  fine = fine-set pool T high (Link low) hi fi lo;
+  same_length = length-set T high (Link low);
+  pairs_in = in-len _ _ w (sym (length-set T high (Link low))) inw;
+  comes = λ c f i k e. (c, comes-link T high low c f i k hi e);
+}
 
 pub low-free : (pool : List ℕ) (T : List Node) (low high f i k : ℕ) (w : List (ℕ × ℕ)) → IsFine pool T → high < length T → low < high → at T low ≡ Variable → at T high ≡ Made f i k → PairsIn (length T) w
     → Steps pool T ((low, high) ∷ w) (set (set T low (Made f i k)) high (Link low)) w
 unfolding Pairs
 low-free pool T low high f i k w fi hi lo is ih inw = record {
-    there = λ s r p.
+  there = λ s r p.
       let g : s high ≡ made f (terms_of s (part_list pool i k)) = at-is pool T high (Made f i k) s ih r in
       (respects-set pool U high (Link low) s hiU (respects-set pool T low (Made f i k) s lT r (p.0 ∙ g)) (sym (p.0)), p.1);
-    back = λ s r p.
+  back = λ s r p.
       let g : s high ≡ s low = respects-at pool U high (Link low) s hiU r in
       let m : at U low ≡ Made f i k = at-set T low (Made f i k) lT in
       let n : Holds pool s low (at (set U high (Link low)) low) = r low in
       let o : s low ≡ made f (terms_of s (part_list pool i k)) = subst (Holds pool s low) (at-other U high low (Link low) (omega (arith, lo)) ∙ m) n in
       let t : Respects pool U s = respects-unset pool U high (Link low) s r (subst (Holds pool s high) (sym (at-other T low high (Made f i k) (omega (arith, lo)) ∙ ih)) (g ∙ o)) in
       (respects-unset pool T low (Made f i k) s t (subst (Holds pool s low) (sym is) tt), (sym g, p));
-    fine = fine-set pool U high (Link low) hiU (fine-set pool T low (Made f i k) lT fi (subst (Fine pool high) ih (fi high))) lo;
-    same_length = length-set U high (Link low) ∙ length-set T low (Made f i k);
-    pairs_in = in-len _ _ w (sym (length-set U high (Link low) ∙ length-set T low (Made f i k))) inw;
-    comes = λ c g j m e. comes-low T low high c f i k g j m lT ih (comes-link U high low c g j m hiU e)
-  }
+  fine = fine-set pool U high (Link low) hiU (fine-set pool T low (Made f i k) lT fi (subst (Fine pool high) ih (fi high))) lo;
+  same_length = length-set U high (Link low) ∙ length-set T low (Made f i k);
+  pairs_in = in-len _ _ w (sym (length-set U high (Link low) ∙ length-set T low (Made f i k))) inw;
+  comes = λ c g j m e. comes-low T low high c f i k g j m lT ih (comes-link U high low c g j m hiU e);
+}
   where
     lT : low < length T
     lT = omega (arith, lo, hi)
@@ -92,22 +92,22 @@ pub both-made : (pool : List ℕ) (T : List Node) (low high f i j k : ℕ) (w : 
     → Steps pool T ((low, high) ∷ w) (set T high (Link low)) (w ++ pairs_of (part_list pool i k) (part_list pool j k))
 unfolding Pairs
 both-made pool T low high f i j k w fi wi hi lo is ih inw inp = record {
-    there = λ s r p.
+  there = λ s r p.
       let g : s low ≡ made f (terms_of s (part_list pool i k)) = at-is pool T low (Made f i k) s is r in
       let h : s high ≡ made f (terms_of s (part_list pool j k)) = at-is pool T high (Made f j k) s ih r in
       let e : made f (terms_of s (part_list pool i k)) ≡ made f (terms_of s (part_list pool j k)) = sym g ∙ p.0 ∙ h in
       (respects-set pool T high (Link low) s hi r (sym (p.0)), pairs-append s w _ (p.1) (pairs-terms s (part_list pool i k) (part_list pool j k) (cc)));
-    back = λ s r p.
+  back = λ s r p.
       let g : s high ≡ s low = respects-at pool T high (Link low) s hi r in
       let n : Holds pool s low (at (set T high (Link low)) low) = r low in
       let o : s low ≡ made f (terms_of s (part_list pool i k)) = subst (Holds pool s low) (at-other T high low (Link low) (omega (arith, lo)) ∙ is) n in
       let t = terms-pairs s (part_list pool i k) (part_list pool j k) (part-length pool i k (subst (Fine pool low) is (fi low)) ∙ sym (part-length pool j k (subst (Fine pool high) ih (fi high)))) (pairs-right s w _ p) in
       (respects-unset pool T high (Link low) s r (subst (Holds pool s high) (sym ih) (g ∙ o ∙ ap (made f) t)), (sym g, pairs-left s w _ p));
-    fine = fine-set pool T high (Link low) hi fi lo;
-    same_length = length-set T high (Link low);
-    pairs_in = in-len _ _ _ (sym (length-set T high (Link low))) (in-append (length T) w _ inw inp);
-    comes = λ c g m n e. (c, comes-link T high low c g m n hi e)
-  }
+  fine = fine-set pool T high (Link low) hi fi lo;
+  same_length = length-set T high (Link low);
+  pairs_in = in-len _ _ _ (sym (length-set T high (Link low))) (in-append (length T) w _ inw inp);
+  comes = λ c g m n e. (c, comes-link T high low c g m n hi e);
+}
 
 pub differs : (pool : List ℕ) (T : List Node) (low high f g i j k m : ℕ) (w : List (ℕ × ℕ)) → IsFine pool T → at T low ≡ Made f i k → at T high ≡ Made g j m → ((f ≡ g) → (k ≡ m) → ⊥) → NoSolution pool T ((low, high) ∷ w)
 unfolding Pairs
@@ -122,47 +122,47 @@ differs pool T low high f g i j k m w fi is ih n s r p =
 pub step-on : (pool : List ℕ) (T0 T T' : List Node) (w0 w w' : List (ℕ × ℕ)) (x y p q : ℕ) → Steps pool T0 w0 T (w ++ (x, y) ∷ []) → Same T x p → Same T y q → Steps pool T ((p, q) ∷ w) T' w' → Steps pool T0 w0 T' w'
 unfolding Pairs
 step-on pool T0 T T' w0 w w' x y p q F u v G = record {
-    there = λ s r h.
+  there = λ s r h.
       let (a, b) = F.there s r h in
       let e = pairs-right s w ((x, y) ∷ []) b in
       G.there s a (sym (u pool s a) ∙ e.0 ∙ v pool s a, pairs-left s w _ b);
-    back = λ s r h.
+  back = λ s r h.
       let (a, b) = G.back s r h in
       F.back s a (pairs-append s w ((x, y) ∷ []) (b.1) (u pool s a ∙ b.0 ∙ sym (v pool s a), tt));
-    fine = G.fine;
-    same_length = G.same_length ∙ F.same_length;
-    pairs_in = G.pairs_in;
-    comes = λ c f i k e. let (d, o) = G.comes c f i k e in F.comes d f i k o
-  }
+  fine = G.fine;
+  same_length = G.same_length ∙ F.same_length;
+  pairs_in = G.pairs_in;
+  comes = λ c f i k e. let (d, o) = G.comes c f i k e in F.comes d f i k o;
+}
 
 pub step-flip : (pool : List ℕ) (T T' : List Node) (w w' : List (ℕ × ℕ)) (p q : ℕ) → Steps pool T ((q, p) ∷ w) T' w' → Steps pool T ((p, q) ∷ w) T' w'
 unfolding Pairs
 step-flip pool T T' w w' p q G = record {
-    there = λ s r h. G.there s r (sym (h.0), h.1);
-    back = λ s r h. let (a, b) = G.back s r h in (a, (sym (b.0), b.1));
-    fine = G.fine;
-    same_length = G.same_length;
-    pairs_in = G.pairs_in;
-    comes = G.comes
-  }
+  there = λ s r h. G.there s r (sym (h.0), h.1);
+  back = λ s r h. let (a, b) = G.back s r h in (a, (sym (b.0), b.1));
+  fine = G.fine;
+  same_length = G.same_length;
+  pairs_in = G.pairs_in;
+  comes = G.comes;
+}
 
 pub step-same : (pool : List ℕ) (T : List Node) (w : List (ℕ × ℕ)) (p : ℕ) → IsFine pool T → PairsIn (length T) w → Steps pool T ((p, p) ∷ w) T w
 unfolding Pairs
 step-same pool T w p fi inw = record {
-    there = λ s r h. (r, h.1);
-    back = λ s r h. (r, (refl, h));
-    fine = fi;
-    same_length = refl;
-    pairs_in = inw;
-    comes = λ c f i k e. (c, e)
-  }
+  there = λ s r h. (r, h.1);
+  back = λ s r h. (r, (refl, h));
+  fine = fi;
+  same_length = refl;
+  pairs_in = inw;
+  comes = λ c f i k e. (c, e);
+}
 
 pub none-on : (pool : List ℕ) (T0 T : List Node) (w0 w : List (ℕ × ℕ)) (x y p q : ℕ) → Steps pool T0 w0 T (w ++ (x, y) ∷ []) → Same T x p → Same T y q → NoSolution pool T ((p, q) ∷ w) → NoSolution pool T0 w0
 unfolding Pairs
 none-on pool T0 T w0 w x y p q F u v n s r h =
-      let (a, b) = F.there s r h in
-      let e = pairs-right s w ((x, y) ∷ []) b in
-      n s a (sym (u pool s a) ∙ e.0 ∙ v pool s a, pairs-left s w _ b)
+    let (a, b) = F.there s r h in
+    let e = pairs-right s w ((x, y) ∷ []) b in
+    n s a (sym (u pool s a) ∙ e.0 ∙ v pool s a, pairs-left s w _ b)
 
 pub less-free : (T : List Node) (low high : ℕ) → high < length T → at T high ≡ Variable → weight (set T high (Link low)) ≤ weight T
 less-free T low high hi is = let q = weight-set T high (Link low) hi in let p : size_of (at T high) ≡ 1 = ap (λ z. size_of z) is in omega (arith, q, p)
@@ -219,21 +219,22 @@ both-law pool T low high f g i j k m w w' fi wi hi lo is ih q r inw e =
     let is2 : at T low ≡ Made f i k = is ∙ ap (λ z. Made z i m) q ∙ ap (Made f i) r in
     let e2 : w' ≡ w ++ pairs_of (part_list pool i k) (part_list pool j k) = e ∙ ap (λ z. w ++ pairs_of (part_list pool i z) (part_list pool j (j + k - j))) (taken i m ∙ r) ∙ ap (λ z. w ++ pairs_of (part_list pool i k) (part_list pool j z)) (taken j k) in
     let li : i + k ≤ length pool = subst (Fine pool low) is2 (fi low) in
-    let lj : j + k ≤ length pool = subst (Fine pool high) ih (fi high) in
-    (subst (λ z. Steps pool T ((low, high) ∷ w) (set T high (Link low)) z) (sym e2) (both-made pool T low high f i j k w fi wi hi lo is2 ih inw (in-parts (length T) pool i j k wi li lj)),
-     subst (λ z. length z + weight (set T high (Link low)) ≤ length w + weight T) (sym e2) (less-both pool T low high f i j k w fi hi is2 ih))
+    let lj : j + k ≤ length pool = subst (Fine pool high) ih (fi high) in (
+      subst (λ z. Steps pool T ((low, high) ∷ w) (set T high (Link low)) z) (sym e2) (both-made pool T low high f i j k w fi wi hi lo is2 ih inw (in-parts (length T) pool i j k wi li lj)),
+      subst (λ z. length z + weight (set T high (Link low)) ≤ length w + weight T) (sym e2) (less-both pool T low high f i j k w fi hi is2 ih),
+    )
 
 -- a pair stands for the pair of its roots
 pub by-roots : (pool : List ℕ) (T T' : List Node) (w w' : List (ℕ × ℕ)) (x y p q : ℕ) → Same T x p → Same T y q → Steps pool T ((p, q) ∷ w) T' w' → Steps pool T ((x, y) ∷ w) T' w'
 unfolding Pairs
 by-roots pool T T' w w' x y p q u v G = record {
-    there = λ s r h. G.there s r (sym (u pool s r) ∙ h.0 ∙ v pool s r, h.1);
-    back = λ s r h. let (a, b) = G.back s r h in (a, (u pool s a ∙ b.0 ∙ sym (v pool s a), b.1));
-    fine = G.fine;
-    same_length = G.same_length;
-    pairs_in = G.pairs_in;
-    comes = G.comes
-  }
+  there = λ s r h. G.there s r (sym (u pool s r) ∙ h.0 ∙ v pool s r, h.1);
+  back = λ s r h. let (a, b) = G.back s r h in (a, (u pool s a ∙ b.0 ∙ sym (v pool s a), b.1));
+  fine = G.fine;
+  same_length = G.same_length;
+  pairs_in = G.pairs_in;
+  comes = G.comes;
+}
 
 pub none-by-roots : (pool : List ℕ) (T : List Node) (w : List (ℕ × ℕ)) (x y p q : ℕ) → Same T x p → Same T y q → NoSolution pool T ((p, q) ∷ w) → NoSolution pool T ((x, y) ∷ w)
 unfolding Pairs
@@ -264,13 +265,13 @@ none-go-on pool T0 T w0 v w p e F n = none-on pool T0 T w0 w (p.0) (p.1) (p.0) (
 
 pub steps-start : (pool : List ℕ) (T : List Node) (w : List (ℕ × ℕ)) → IsFine pool T → PairsIn (length T) w → Steps pool T w T w
 steps-start pool T w fi inw = record {
-    there = λ s r h. (r, h);
-    back = λ s r h. (r, h);
-    fine = fi;
-    same_length = refl;
-    pairs_in = inw;
-    comes = λ c f i k e. (c, e)
-  }
+  there = λ s r h. (r, h);
+  back = λ s r h. (r, h);
+  fine = fi;
+  same_length = refl;
+  pairs_in = inw;
+  comes = λ c f i k e. (c, e);
+}
 
 pub ok-to : {A E : Type 0} (P Q : A → Type 0) (r : Result A E) → ((x : A) → P x → Q x) → IfOk r P → IfOk r Q
 ok-to P Q (Ok x) f h = f x h

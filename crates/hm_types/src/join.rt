@@ -36,7 +36,13 @@ fn push_pairs(work: &mut Vec<(u32, u32)>, xs: &[u32], ys: &[u32]) -> Result<(), 
 }
 
 // Makes two classes one that stand for themselves.
-fn merge(parts: &[u32], nodes: &mut [Node], low: u32, high: u32, work: &mut Vec<(u32, u32)>) -> Result<(), UnifyRefusal>
+fn merge(
+    parts: &[u32],
+    nodes: &mut [Node],
+    low: u32,
+    high: u32,
+    work: &mut Vec<(u32, u32)>,
+) -> Result<(), UnifyRefusal>
     requires fine { IsFine parts.now nodes.old }
     requires parts { Within (length nodes.old) parts.now }
     requires order { low < high }
@@ -115,7 +121,13 @@ fn equate(
 }
 
 /// Joins classes until nothing is left to be made equal. Answers the classes that may have changed.
-pub(crate) fn join(alloc: Global, parts: &[u32], nodes: &mut [Node], a: u32, b: u32) -> Result<Vec<u32>, UnifyRefusal>
+pub(crate) fn join(
+    alloc: Global,
+    parts: &[u32],
+    nodes: &mut [Node],
+    a: u32,
+    b: u32,
+) -> Result<Vec<u32>, UnifyRefusal>
     requires fine { IsFine parts.now nodes.old }
     requires parts { Within (length nodes.old) parts.now }
     requires first { a < length nodes.old }

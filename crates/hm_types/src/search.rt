@@ -68,7 +68,15 @@ fn number_all(
 {
     while !path.is_empty() {
         let class = path[path.len() - 1];
-        match first_part(parts, nodes, asked, marks, floor, class, asked[class as usize].birth) {
+        match first_part(
+            parts,
+            nodes,
+            asked,
+            marks,
+            floor,
+            class,
+            asked[class as usize].birth,
+        ) {
             None => {
                 *stamp = stamp.checked_add(1).ok_or(AllocError)?;
                 marks[class as usize] = *stamp;

@@ -21,7 +21,12 @@ fn both(a: Asked, b: Asked) -> Asked
 }
 
 // Asks more of a class, and lists it where that is news.
-fn ask(asked: &mut [Asked], class: u32, more: Asked, work: &mut Vec<u32>) -> Result<(), UnifyRefusal>
+fn ask(
+    asked: &mut [Asked],
+    class: u32,
+    more: Asked,
+    work: &mut Vec<u32>,
+) -> Result<(), UnifyRefusal>
     requires within { class < length asked.old }
     ensures told { IfOk result (λ _. Told (λ names s. Allows names more (s class)) asked.old asked.new work.old.items work.new.items) }
     ensures met { IfOk result (λ _. Below more (asked_at asked.new class)) }

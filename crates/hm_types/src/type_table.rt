@@ -46,7 +46,12 @@ impl Model for TypeTable {
 }
 
 // Makes room for more classes.
-fn make_room(nodes: &mut Vec<Node>, asked: &mut Vec<Asked>, marks: &mut Vec<u64>, count: usize) -> Result<(), NoMemory>
+fn make_room(
+    nodes: &mut Vec<Node>,
+    asked: &mut Vec<Asked>,
+    marks: &mut Vec<u64>,
+    count: usize,
+) -> Result<(), NoMemory>
     ensures nodes { nodes.new.items ≡ nodes.old.items }
     ensures asked { asked.new.items ≡ asked.old.items }
     ensures marks { marks.new.items ≡ marks.old.items }
@@ -172,7 +177,8 @@ impl TypeTable {
         }
         make_room(&mut self.nodes, &mut self.asked, &mut self.marks, 1)?;
         self.parts.extend_from_slice(parts)?;
-        self.nodes.push_reserved(Node::Made(name, first as u32, parts.len() as u32));
+        self.nodes
+            .push_reserved(Node::Made(name, first as u32, parts.len() as u32));
         self.asked.push_reserved(Asked {
             equality: false,
             birth: class as u32,
@@ -336,7 +342,9 @@ impl TypeTable {
         if self.asked[class as usize].birth < mark {
             return class;
         }
-        let number = self.marks[class as usize].saturating_sub(floor).saturating_sub(1);
+        let number = self.marks[class as usize]
+            .saturating_sub(floor)
+            .saturating_sub(1);
         match copies.get(number as usize) {
             Some(copy) => *copy,
             None => class,
@@ -362,7 +370,14 @@ impl TypeTable {
     }
 
     // What stands for so many parts, from a place on, in a copy.
-    fn images(&self, first: u32, count: u32, mark: u32, floor: u64, copies: &[u32]) -> Result<Vec<u32>, NoMemory>
+    fn images(
+        &self,
+        first: u32,
+        count: u32,
+        mark: u32,
+        floor: u64,
+        copies: &[u32],
+    ) -> Result<Vec<u32>, NoMemory>
         requires parts { first + count ≤ length self.now.parts }
         requires copies { Within (length self.now.nodes) copies.now }
         ensures within { IfOk result (λ images. Within (length self.now.nodes) images.items) }

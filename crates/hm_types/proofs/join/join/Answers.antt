@@ -6,8 +6,11 @@ use Rattle.hm_types.proofs.Steps.{in-one, taken-last, go-on, none-go-on, steps-s
 use Rattle.hm_types.proofs.join.join.Goals as goal
 
 pub loop-x-init : goal.loop-x-init
-loop-x-init c = (subst (λ z. Steps c.args.parts.now c.args.nodes.now ((c.args.a, c.args.b) ∷ []) c.args.nodes.now z) (sym (c.in_ok-push.ensures.items ∙ ap (λ z. z ++ (c.args.a, c.args.b) ∷ []) c.new-work.ensures.items))
-    (steps-start c.args.parts.now c.args.nodes.now ((c.args.a, c.args.b) ∷ []) c.requires.fine (in-one _ _ _ c.requires.first c.requires.second)), subst (Frame c.args.nodes.now c.args.nodes.now []) (sym c.new-changed.ensures.items) (frame-same c.args.nodes.now []))
+loop-x-init c = (
+  subst (λ z. Steps c.args.parts.now c.args.nodes.now ((c.args.a, c.args.b) ∷ []) c.args.nodes.now z) (sym (c.in_ok-push.ensures.items ∙ ap (λ z. z ++ (c.args.a, c.args.b) ∷ []) c.new-work.ensures.items))
+      (steps-start c.args.parts.now c.args.nodes.now ((c.args.a, c.args.b) ∷ []) c.requires.fine (in-one _ _ _ c.requires.first c.requires.second)),
+  subst (Frame c.args.nodes.now c.args.nodes.now []) (sym c.new-changed.ensures.items) (frame-same c.args.nodes.now []),
+)
 
 pub equate-requires-clause-first : goal.equate-requires-clause-first
 equate-requires-clause-first c = (taken-last _ _ _ _ _ _ (c.in-Some.x, c.in-Some.y) c.in-Some.ensures.items c.loop-x.invariant.0).0

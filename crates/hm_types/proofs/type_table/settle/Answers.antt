@@ -19,8 +19,8 @@ returns-in_err-spread-clause-none c e =
 pub returns-then-branch-clause-joined : goal.returns-then-branch-clause-joined
 returns-then-branch-clause-joined c =
     joined-by c.args.names.now c.args.parts.now c.args.nodes.now c.join.new.nodes c.args.asked.now c.spread.new.asked c.is_finite.new.marks c.in_ok-changed.changed.items (c.args.stamp.now + 1) c.is_finite.new.stamp _ c.args.a c.args.b
-      c.requires.settled c.requires.parts c.in_ok-changed.ensures.steps c.in_ok-changed.ensures.frame c.in_ok-spread.ensures.spread c.in_ok-is_finite.ensures.stamped
-      (subst (λ z. Searched c.args.parts.now c.join.new.nodes c.spread.new.asked c.is_finite.new.marks (c.args.stamp.now + 1) z) c.deref-2.ensures.value (c.in_ok-is_finite.ensures.searched c.if-branch.true))
+    c.requires.settled c.requires.parts c.in_ok-changed.ensures.steps c.in_ok-changed.ensures.frame c.in_ok-spread.ensures.spread c.in_ok-is_finite.ensures.stamped
+    (subst (λ z. Searched c.args.parts.now c.join.new.nodes c.spread.new.asked c.is_finite.new.marks (c.args.stamp.now + 1) z) c.deref-2.ensures.value (c.in_ok-is_finite.ensures.searched c.if-branch.true))
 
 pub returns-clause-none : goal.returns-clause-none
 returns-clause-none c e = none-finite c.args.names.now c.args.parts.now c.args.nodes.now c.join.new.nodes c.args.asked.now c.args.a c.args.b c.in_ok-changed.ensures.steps (c.in_ok-is_finite.ensures.endless c.if-branch.false)
