@@ -11,3 +11,4 @@ mod copies;
 mod lex_table;
 #[cfg(test)]
 mod parse_table;
+mod type_table;

@@ -1,0 +1,11 @@
+pub mod Sets
+pub mod Steps
+pub mod Solved
+pub mod Members
+pub mod Asking
+pub mod Ranks
+pub mod Choices
+pub mod Settling
+pub mod Growth
+pub mod Declaring
+pub mod Searching
