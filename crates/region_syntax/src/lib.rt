@@ -2,6 +2,7 @@
 #![tactic(auto)]
 
 mod copy;
+mod laws;
 mod region;
 mod specialised;
 mod types;

@@ -105,49 +105,52 @@ impl RExpForm {
     pub fn try_copy(&self, alloc: Global) -> Result<RExpForm, NoMemory>
         ensures { IfOk result (λ copy. copy ≡ self.now) }
     {
-        Ok(match self {
-            RExpForm::Int(n) => RExpForm::Int(*n),
-            RExpForm::Char(c) => RExpForm::Char(*c),
-            RExpForm::Str(text, at) => RExpForm::Str(text.try_copy(alloc)?, *at),
-            RExpForm::Name(name) => RExpForm::Name(name.try_copy(alloc)?),
-            RExpForm::Prim(name) => RExpForm::Prim(name.try_copy(alloc)?),
-            RExpForm::Con(con) => RExpForm::Con(*con),
-            RExpForm::Unit => RExpForm::Unit,
-            RExpForm::Tuple(parts, at) => RExpForm::Tuple(copy_exps(alloc, parts)?, *at),
-            RExpForm::List(items, at) => RExpForm::List(copy_exps(alloc, items)?, *at),
-            RExpForm::Seq(steps) => RExpForm::Seq(copy_exps(alloc, steps)?),
-            RExpForm::App(f, x) => RExpForm::App(copy_box(alloc, f)?, copy_box(alloc, x)?),
+        match self {
+            RExpForm::Int(n) => Ok(RExpForm::Int(*n)),
+            RExpForm::Char(c) => Ok(RExpForm::Char(*c)),
+            RExpForm::Str(text, at) => Ok(RExpForm::Str(text.try_copy(alloc)?, *at)),
+            RExpForm::Name(name) => Ok(RExpForm::Name(name.try_copy(alloc)?)),
+            RExpForm::Prim(name) => Ok(RExpForm::Prim(name.try_copy(alloc)?)),
+            RExpForm::Con(con) => Ok(RExpForm::Con(*con)),
+            RExpForm::Unit => Ok(RExpForm::Unit),
+            RExpForm::Tuple(parts, at) => Ok(RExpForm::Tuple(copy_exps(alloc, parts)?, *at)),
+            RExpForm::List(items, at) => Ok(RExpForm::List(copy_exps(alloc, items)?, *at)),
+            RExpForm::Seq(steps) => Ok(RExpForm::Seq(copy_exps(alloc, steps)?)),
+            RExpForm::App(f, x) => Ok(RExpForm::App(copy_box(alloc, f)?, copy_box(alloc, x)?)),
             RExpForm::Let(decs, body) => {
-                RExpForm::Let(copy_decs(alloc, decs)?, copy_exps(alloc, body)?)
+                Ok(RExpForm::Let(copy_decs(alloc, decs)?, copy_exps(alloc, body)?))
             }
-            RExpForm::Fn(rules, at) => RExpForm::Fn(copy_rules(alloc, rules)?, *at),
+            RExpForm::Fn(rules, at) => Ok(RExpForm::Fn(copy_rules(alloc, rules)?, *at)),
             RExpForm::Case(x, rules) => {
-                RExpForm::Case(copy_box(alloc, x)?, copy_rules(alloc, rules)?)
+                Ok(RExpForm::Case(copy_box(alloc, x)?, copy_rules(alloc, rules)?))
             }
             RExpForm::Handle(x, rules) => {
-                RExpForm::Handle(copy_box(alloc, x)?, copy_rules(alloc, rules)?)
+                Ok(RExpForm::Handle(copy_box(alloc, x)?, copy_rules(alloc, rules)?))
             }
-            RExpForm::Raise(x) => RExpForm::Raise(copy_box(alloc, x)?),
+            RExpForm::Raise(x) => Ok(RExpForm::Raise(copy_box(alloc, x)?)),
             RExpForm::If(x, y, z) => {
                 let x = copy_box(alloc, x)?;
-                RExpForm::If(x, copy_box(alloc, y)?, copy_box(alloc, z)?)
+                Ok(RExpForm::If(x, copy_box(alloc, y)?, copy_box(alloc, z)?))
             }
-            RExpForm::Both(x, y) => RExpForm::Both(copy_box(alloc, x)?, copy_box(alloc, y)?),
-            RExpForm::Either(x, y) => RExpForm::Either(copy_box(alloc, x)?, copy_box(alloc, y)?),
-            RExpForm::Quote(pieces, at) => RExpForm::Quote(copy_pieces(alloc, pieces)?, *at),
+            RExpForm::Both(x, y) => Ok(RExpForm::Both(copy_box(alloc, x)?, copy_box(alloc, y)?)),
+            RExpForm::Either(x, y) => Ok(RExpForm::Either(
+                copy_box(alloc, x)?,
+                copy_box(alloc, y)?,
+            )),
+            RExpForm::Quote(pieces, at) => Ok(RExpForm::Quote(copy_pieces(alloc, pieces)?, *at)),
             RExpForm::LetRegion(regions, x) => {
-                RExpForm::LetRegion(copy_numbers(alloc, regions)?, copy_box(alloc, x)?)
+                Ok(RExpForm::LetRegion(copy_numbers(alloc, regions)?, copy_box(alloc, x)?))
             }
-            RExpForm::Fix(group, x) => RExpForm::Fix(
+            RExpForm::Fix(group, x) => Ok(RExpForm::Fix(
                 copy_group(alloc, group)?,
                 copy_box(alloc, x)?,
-            ),
+            )),
             RExpForm::Inst(name, places, effects) => {
                 let name = name.try_copy(alloc)?;
                 let places = copy_places(alloc, places)?;
-                RExpForm::Inst(name, places, copy_effects(alloc, effects)?)
+                Ok(RExpForm::Inst(name, places, copy_effects(alloc, effects)?))
             }
-        })
+        }
     }
 }
 
