@@ -2,8 +2,18 @@
 use Rattle.std.specs.Prelude.{ℕ, List, map, Option, Some, None}
 use Rattle.region_syntax.specs.GroundTypes.{GroundType}
 use Rattle.region_syntax.specs.GroundTerms as g
-use Rattle.region_syntax.specs.RegionTypes.{RegionType, erased_type}
+use Rattle.region_syntax.specs.declared.types.RTy.{RTy}
+use Rattle.region_syntax.specs.declared.region.RPat.{RPat}
+use Rattle.region_syntax.specs.declared.region.RPatForm.{RPatForm}
+use Rattle.region_syntax.specs.declared.region.RExp.{RExp}
+use Rattle.region_syntax.specs.declared.region.RExpForm.{RExpForm}
+use Rattle.region_syntax.specs.declared.region.RRule.{RRule}
+use Rattle.region_syntax.specs.declared.region.RPiece.{RPiece}
+use Rattle.region_syntax.specs.declared.region.FixDef.{FixDef}
+use Rattle.region_syntax.specs.declared.region.RDec.{RDec}
+use Rattle.region_syntax.specs.RegionTypes.{RegionType, erased_type, region_type}
 use Rattle.region_syntax.specs.RegionTerms as r
+use Rattle.region_syntax.specs.RegionTerms.{region_pat, region_pat_form, region_exp, region_form, region_rule, region_piece, region_def, region_dec, region_argument}
 
 unfoldable mutual
   pub erased_pat : r.Pat → g.Pat
@@ -77,6 +87,22 @@ unfoldable mutual
   erased_decs (r.funs group ds) = g.funs (erased_defs group) (erased_decs ds)
   erased_decs (r.locals hidden shown ds) = g.locals (erased_decs hidden) (erased_decs shown) (erased_decs ds)
 
+-- the same of a rule or binding, a piece, a function of a group and a declaration by themselves
+abbrev pub erased_rule : r.Pat × r.Exp → g.Pat × g.Exp
+erased_rule rule = (erased_pat rule.0, erased_exp rule.1)
+
+abbrev pub erased_piece : r.Piece → g.Piece
+erased_piece (r.plain_piece text) = g.plain_piece text
+erased_piece (r.anti_piece e) = g.anti_piece (erased_exp e)
+
+abbrev pub erased_def : r.Head × List (r.Pat × r.Exp) → List ℕ × List (g.Pat × g.Exp)
+erased_def d = (d.0.name, map erased_rule d.1)
+
+abbrev pub erased_dec : r.Dec → g.Dec
+erased_dec (r.val_dec bs) = g.val_dec (erased_rules bs)
+erased_dec (r.fun_dec group) = g.fun_dec (erased_defs group)
+erased_dec (r.local_dec hidden shown) = g.local_dec (erased_decs hidden) (erased_decs shown)
+
 abbrev pub erased_argument : Option RegionType → Option GroundType
 erased_argument None = None
 erased_argument (Some t) = Some (erased_type t)
@@ -88,3 +114,40 @@ erased_program p = record {
   exceptions = map (λ c. (c.0, erased_argument c.1)) p.exceptions;
   items = erased_decs p.items;
 }
+
+-- the erasures of trees
+unfoldable pub type_erasure : RTy → GroundType
+type_erasure t = erased_type (region_type t)
+
+unfoldable pub pat_erasure : RPat → g.Pat
+pat_erasure p = erased_pat (region_pat p)
+
+unfoldable pub pat_form_erasure : RPatForm → g.PatForm
+pat_form_erasure f = erased_pat_form (region_pat_form f)
+
+unfoldable pub exp_erasure : RExp → g.Exp
+exp_erasure e = erased_exp (region_exp e)
+
+unfoldable pub form_erasure : GroundType → RExpForm → g.Exp
+form_erasure t f = erased_form t (region_form f)
+
+unfoldable pub rule_erasure : RRule → g.Pat × g.Exp
+rule_erasure rule = erased_rule (region_rule rule)
+
+unfoldable pub binding_erasure : RPat × RExp → g.Pat × g.Exp
+binding_erasure b = (pat_erasure b.0, exp_erasure b.1)
+
+unfoldable pub piece_erasure : RPiece → g.Piece
+piece_erasure p = erased_piece (region_piece p)
+
+unfoldable pub def_erasure : FixDef → List ℕ × List (g.Pat × g.Exp)
+def_erasure d = erased_def (region_def d)
+
+unfoldable pub dec_erasure : RDec → g.Dec
+dec_erasure d = erased_dec (region_dec d)
+
+unfoldable pub argument_erasure : Option RTy → Option GroundType
+argument_erasure t = erased_argument (region_argument t)
+
+unfoldable pub exception_erasure : List ℕ × Option RTy → List ℕ × Option GroundType
+exception_erasure e = (e.0, argument_erasure e.1)

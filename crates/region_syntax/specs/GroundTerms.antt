@@ -91,6 +91,16 @@ mutual
     funs : Defs → Decs → Decs
     locals : Decs → Decs → Decs → Decs
 
+-- a piece of a quotation, and a declaration, by themselves
+pub data Piece : Type 0 where
+  plain_piece : List ℕ → Piece
+  anti_piece : Exp → Piece
+
+pub data Dec : Type 0 where
+  val_dec : Rules → Dec
+  fun_dec : Defs → Dec
+  local_dec : Decs → Decs → Dec
+
 -- the lists of the terms
 abbrev pub pats_of : List Pat → Pats
 pats_of [] = no_pats
@@ -100,11 +110,6 @@ abbrev pub exps_of : List Exp → Exps
 exps_of [] = no_exps
 exps_of (e ∷ es) = exps e (exps_of es)
 
--- what stands before a list, item by item
-abbrev pub before_all : {A : Type 0} → List (A → A) → A → A
-before_all [] rest = rest
-before_all (f ∷ fs) rest = f (before_all fs rest)
-
 abbrev pub rules_of : List (Pat × Exp) → Rules
 rules_of [] = no_rules
 rules_of (r ∷ rs) = rules r.0 r.1 (rules_of rs)
@@ -113,11 +118,16 @@ abbrev pub defs_of : List (List ℕ × List (Pat × Exp)) → Defs
 defs_of [] = no_defs
 defs_of (d ∷ ds) = defs d.0 (rules_of d.1) (defs_of ds)
 
-abbrev pub decs_of : List (Decs → Decs) → Decs
-decs_of ds = before_all ds no_decs
+abbrev pub decs_of : List Dec → Decs
+decs_of [] = no_decs
+decs_of (val_dec bs ∷ ds) = vals bs (decs_of ds)
+decs_of (fun_dec group ∷ ds) = funs group (decs_of ds)
+decs_of (local_dec hidden shown ∷ ds) = locals hidden shown (decs_of ds)
 
-abbrev pub pieces_of : List (Pieces → Pieces) → Pieces
-pieces_of ps = before_all ps no_pieces
+abbrev pub pieces_of : List Piece → Pieces
+pieces_of [] = no_pieces
+pieces_of (plain_piece text ∷ ps) = plain text (pieces_of ps)
+pieces_of (anti_piece e ∷ ps) = anti e (pieces_of ps)
 
 -- the pattern that a tree is
 abbrev pub pat_form_layer : MPatForm-F PatForm Pat → PatForm
@@ -142,7 +152,7 @@ unfoldable pub ground_pat_form : MPatForm → PatForm
 ground_pat_form = fold-MPatForm PatForm Pat pat_form_layer pat_layer
 
 -- the expression that a tree is
-abbrev pub form_layer : MExpForm-F (Decs → Decs) Form (Pieces → Pieces) Exp (Pat × Exp) → Form
+abbrev pub form_layer : MExpForm-F Dec Form Piece Exp (Pat × Exp) → Form
 form_layer (MExpForm-F.Int n) = Int n
 form_layer (MExpForm-F.Char c) = Char c
 form_layer (MExpForm-F.Str text) = Str text
@@ -164,35 +174,42 @@ form_layer (MExpForm-F.Both a b) = Both a b
 form_layer (MExpForm-F.Either a b) = Either a b
 form_layer (MExpForm-F.Quote ps) = Quote (pieces_of ps)
 
-abbrev pub dec_layer : MDec-F (Decs → Decs) Form (Pieces → Pieces) Exp (Pat × Exp) → Decs → Decs
-dec_layer (MDec-F.Val bs) rest = vals (rules_of (map (λ b. (ground_pat b.0, b.1)) bs)) rest
-dec_layer (MDec-F.ValRec ds) rest = funs (defs_of ds) rest
-dec_layer (MDec-F.Local hidden shown) rest = locals (decs_of hidden) (decs_of shown) rest
+abbrev pub dec_layer : MDec-F Dec Form Piece Exp (Pat × Exp) → Dec
+dec_layer (MDec-F.Val bs) = val_dec (rules_of (map (λ b. (ground_pat b.0, b.1)) bs))
+dec_layer (MDec-F.ValRec ds) = fun_dec (defs_of ds)
+dec_layer (MDec-F.Local hidden shown) = local_dec (decs_of hidden) (decs_of shown)
 
-abbrev pub piece_layer : MPiece-F (Decs → Decs) Form (Pieces → Pieces) Exp (Pat × Exp) → Pieces → Pieces
-piece_layer (MPiece-F.Plain text) rest = plain text rest
-piece_layer (MPiece-F.Anti e) rest = anti e rest
+abbrev pub piece_layer : MPiece-F Dec Form Piece Exp (Pat × Exp) → Piece
+piece_layer (MPiece-F.Plain text) = plain_piece text
+piece_layer (MPiece-F.Anti e) = anti_piece e
 
-abbrev pub exp_layer : MExp-F (Decs → Decs) Form (Pieces → Pieces) Exp (Pat × Exp) → Exp
+abbrev pub exp_layer : MExp-F Dec Form Piece Exp (Pat × Exp) → Exp
 exp_layer e = exp (ground_type e.ty) e.form
 
-abbrev pub rule_layer : MRule-F (Decs → Decs) Form (Pieces → Pieces) Exp (Pat × Exp) → Pat × Exp
+abbrev pub rule_layer : MRule-F Dec Form Piece Exp (Pat × Exp) → Pat × Exp
 rule_layer r = (ground_pat r.pat, r.body)
 
 unfoldable pub ground_exp : MExp → Exp
-ground_exp = fold-MExp (Decs → Decs) Form (Pieces → Pieces) Exp (Pat × Exp) dec_layer form_layer piece_layer exp_layer rule_layer
+ground_exp = fold-MExp Dec Form Piece Exp (Pat × Exp) dec_layer form_layer piece_layer exp_layer rule_layer
 
 unfoldable pub ground_form : MExpForm → Form
-ground_form = fold-MExpForm (Decs → Decs) Form (Pieces → Pieces) Exp (Pat × Exp) dec_layer form_layer piece_layer exp_layer rule_layer
+ground_form = fold-MExpForm Dec Form Piece Exp (Pat × Exp) dec_layer form_layer piece_layer exp_layer rule_layer
 
 unfoldable pub ground_rule : MRule → Pat × Exp
-ground_rule = fold-MRule (Decs → Decs) Form (Pieces → Pieces) Exp (Pat × Exp) dec_layer form_layer piece_layer exp_layer rule_layer
+ground_rule = fold-MRule Dec Form Piece Exp (Pat × Exp) dec_layer form_layer piece_layer exp_layer rule_layer
 
-unfoldable pub ground_piece : MPiece → Pieces → Pieces
-ground_piece = fold-MPiece (Decs → Decs) Form (Pieces → Pieces) Exp (Pat × Exp) dec_layer form_layer piece_layer exp_layer rule_layer
+unfoldable pub ground_piece : MPiece → Piece
+ground_piece = fold-MPiece Dec Form Piece Exp (Pat × Exp) dec_layer form_layer piece_layer exp_layer rule_layer
 
-unfoldable pub ground_dec : MDec → Decs → Decs
-ground_dec = fold-MDec (Decs → Decs) Form (Pieces → Pieces) Exp (Pat × Exp) dec_layer form_layer piece_layer exp_layer rule_layer
+unfoldable pub ground_dec : MDec → Dec
+ground_dec = fold-MDec Dec Form Piece Exp (Pat × Exp) dec_layer form_layer piece_layer exp_layer rule_layer
+
+-- a binding, and a function of a group
+unfoldable pub ground_binding : MPat × MExp → Pat × Exp
+ground_binding b = (ground_pat b.0, ground_exp b.1)
+
+unfoldable pub ground_def : List ℕ × List MRule → List ℕ × List (Pat × Exp)
+ground_def d = (d.0, map ground_rule d.1)
 
 -- a datatype: how many parameters it has, and its constructors
 pub record Datatype : Type 0 where
@@ -206,6 +223,10 @@ ground_argument (Some t) = Some (ground_type t)
 abbrev pub ground_datatype : MData → Datatype
 ground_datatype d = record { params = d.params; constructors = map (λ c. (c.0, ground_argument c.1)) d.cons }
 
+-- an exception with the type of its argument, if any
+unfoldable pub ground_exception : List ℕ × Option MTy → List ℕ × Option GroundType
+ground_exception e = (e.0, ground_argument e.1)
+
 -- a program
 pub record Program : Type 0 where
   pub datatypes : List Datatype
@@ -215,6 +236,6 @@ pub record Program : Type 0 where
 abbrev pub ground_program : MProgram → Program
 ground_program p = record {
   datatypes = map ground_datatype p.datatypes;
-  exceptions = map (λ c. (c.0, ground_argument c.1)) p.exceptions;
+  exceptions = map ground_exception p.exceptions;
   items = decs_of (map ground_dec p.items);
 }

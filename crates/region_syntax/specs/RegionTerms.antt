@@ -17,7 +17,7 @@ use Rattle.region_syntax.specs.declared.region.RDec.{RDec}
 use Rattle.region_syntax.specs.declared.region.RProgram.{RProgram}
 use Rattle.region_syntax.specs.declared.region.RDec.TheOpen.{RDec-F, RExpForm-F, RPiece-F, FixDef-F, RExp-F, RRule-F}
 use Rattle.region_syntax.specs.declared.region.RDec.TheFolds.{fold-RDec, fold-RExpForm, fold-RPiece, fold-FixDef, fold-RExp, fold-RRule}
-use Rattle.region_syntax.specs.GroundTerms.{before_all, Datatype, ground_datatype}
+use Rattle.region_syntax.specs.GroundTerms.{Datatype, ground_datatype}
 use Rattle.region_syntax.specs.RegionTypes.{RegionType, region_type}
 
 -- a pattern: its type and its form
@@ -108,6 +108,16 @@ mutual
     funs : Defs → Decs → Decs
     locals : Decs → Decs → Decs → Decs
 
+-- a piece of a quotation, and a declaration, by themselves
+pub data Piece : Type 0 where
+  plain_piece : List ℕ → Piece
+  anti_piece : Exp → Piece
+
+pub data Dec : Type 0 where
+  val_dec : Rules → Dec
+  fun_dec : Defs → Dec
+  local_dec : Decs → Decs → Dec
+
 -- the lists of the terms
 abbrev pub pats_of : List Pat → Pats
 pats_of [] = no_pats
@@ -121,14 +131,20 @@ abbrev pub rules_of : List (Pat × Exp) → Rules
 rules_of [] = no_rules
 rules_of (r ∷ rs) = rules r.0 r.1 (rules_of rs)
 
-abbrev pub defs_of : List (Defs → Defs) → Defs
-defs_of ds = before_all ds no_defs
+abbrev pub defs_of : List (Head × List (Pat × Exp)) → Defs
+defs_of [] = no_defs
+defs_of (d ∷ ds) = defs d.0 (rules_of d.1) (defs_of ds)
 
-abbrev pub decs_of : List (Decs → Decs) → Decs
-decs_of ds = before_all ds no_decs
+abbrev pub decs_of : List Dec → Decs
+decs_of [] = no_decs
+decs_of (val_dec bs ∷ ds) = vals bs (decs_of ds)
+decs_of (fun_dec group ∷ ds) = funs group (decs_of ds)
+decs_of (local_dec hidden shown ∷ ds) = locals hidden shown (decs_of ds)
 
-abbrev pub pieces_of : List (Pieces → Pieces) → Pieces
-pieces_of ps = before_all ps no_pieces
+abbrev pub pieces_of : List Piece → Pieces
+pieces_of [] = no_pieces
+pieces_of (plain_piece text ∷ ps) = plain text (pieces_of ps)
+pieces_of (anti_piece e ∷ ps) = anti e (pieces_of ps)
 
 -- the pattern that a tree is
 abbrev pub pat_form_layer : RPatForm-F PatForm Pat → PatForm
@@ -153,7 +169,7 @@ unfoldable pub region_pat_form : RPatForm → PatForm
 region_pat_form = fold-RPatForm PatForm Pat pat_form_layer pat_layer
 
 -- the expression that a tree is
-abbrev pub form_layer : RExpForm-F (Decs → Decs) Form (Pieces → Pieces) (Defs → Defs) Exp (Pat × Exp) → Form
+abbrev pub form_layer : RExpForm-F Dec Form Piece (Head × List (Pat × Exp)) Exp (Pat × Exp) → Form
 form_layer (RExpForm-F.Int n) = Int n
 form_layer (RExpForm-F.Char c) = Char c
 form_layer (RExpForm-F.Str text at) = Str text at
@@ -178,41 +194,41 @@ form_layer (RExpForm-F.LetRegion rs e) = LetRegion rs e
 form_layer (RExpForm-F.Fix ds e) = Fix (defs_of ds) e
 form_layer (RExpForm-F.Inst name places effects) = Inst name places effects
 
-abbrev pub dec_layer : RDec-F (Decs → Decs) Form (Pieces → Pieces) (Defs → Defs) Exp (Pat × Exp) → Decs → Decs
-dec_layer (RDec-F.Val bs) rest = vals (rules_of (map (λ b. (region_pat b.0, b.1)) bs)) rest
-dec_layer (RDec-F.ValRec ds) rest = funs (defs_of ds) rest
-dec_layer (RDec-F.Local hidden shown) rest = locals (decs_of hidden) (decs_of shown) rest
+abbrev pub dec_layer : RDec-F Dec Form Piece (Head × List (Pat × Exp)) Exp (Pat × Exp) → Dec
+dec_layer (RDec-F.Val bs) = val_dec (rules_of (map (λ b. (region_pat b.0, b.1)) bs))
+dec_layer (RDec-F.ValRec ds) = fun_dec (defs_of ds)
+dec_layer (RDec-F.Local hidden shown) = local_dec (decs_of hidden) (decs_of shown)
 
-abbrev pub piece_layer : RPiece-F (Decs → Decs) Form (Pieces → Pieces) (Defs → Defs) Exp (Pat × Exp) → Pieces → Pieces
-piece_layer (RPiece-F.Plain text) rest = plain text rest
-piece_layer (RPiece-F.Anti e) rest = anti e rest
+abbrev pub piece_layer : RPiece-F Dec Form Piece (Head × List (Pat × Exp)) Exp (Pat × Exp) → Piece
+piece_layer (RPiece-F.Plain text) = plain_piece text
+piece_layer (RPiece-F.Anti e) = anti_piece e
 
-abbrev pub def_layer : FixDef-F (Decs → Decs) Form (Pieces → Pieces) (Defs → Defs) Exp (Pat × Exp) → Defs → Defs
-def_layer d rest = defs (record { name = d.name; regions = d.regions; effects = d.effects; ty = region_type d.ty; at = d.at }) (rules_of d.rules) rest
+abbrev pub def_layer : FixDef-F Dec Form Piece (Head × List (Pat × Exp)) Exp (Pat × Exp) → Head × List (Pat × Exp)
+def_layer d = (record { name = d.name; regions = d.regions; effects = d.effects; ty = region_type d.ty; at = d.at }, d.rules)
 
-abbrev pub exp_layer : RExp-F (Decs → Decs) Form (Pieces → Pieces) (Defs → Defs) Exp (Pat × Exp) → Exp
+abbrev pub exp_layer : RExp-F Dec Form Piece (Head × List (Pat × Exp)) Exp (Pat × Exp) → Exp
 exp_layer e = exp (region_type e.ty) e.form
 
-abbrev pub rule_layer : RRule-F (Decs → Decs) Form (Pieces → Pieces) (Defs → Defs) Exp (Pat × Exp) → Pat × Exp
+abbrev pub rule_layer : RRule-F Dec Form Piece (Head × List (Pat × Exp)) Exp (Pat × Exp) → Pat × Exp
 rule_layer r = (region_pat r.pat, r.body)
 
 unfoldable pub region_exp : RExp → Exp
-region_exp = fold-RExp (Decs → Decs) Form (Pieces → Pieces) (Defs → Defs) Exp (Pat × Exp) dec_layer form_layer piece_layer def_layer exp_layer rule_layer
+region_exp = fold-RExp Dec Form Piece (Head × List (Pat × Exp)) Exp (Pat × Exp) dec_layer form_layer piece_layer def_layer exp_layer rule_layer
 
 unfoldable pub region_form : RExpForm → Form
-region_form = fold-RExpForm (Decs → Decs) Form (Pieces → Pieces) (Defs → Defs) Exp (Pat × Exp) dec_layer form_layer piece_layer def_layer exp_layer rule_layer
+region_form = fold-RExpForm Dec Form Piece (Head × List (Pat × Exp)) Exp (Pat × Exp) dec_layer form_layer piece_layer def_layer exp_layer rule_layer
 
 unfoldable pub region_rule : RRule → Pat × Exp
-region_rule = fold-RRule (Decs → Decs) Form (Pieces → Pieces) (Defs → Defs) Exp (Pat × Exp) dec_layer form_layer piece_layer def_layer exp_layer rule_layer
+region_rule = fold-RRule Dec Form Piece (Head × List (Pat × Exp)) Exp (Pat × Exp) dec_layer form_layer piece_layer def_layer exp_layer rule_layer
 
-unfoldable pub region_piece : RPiece → Pieces → Pieces
-region_piece = fold-RPiece (Decs → Decs) Form (Pieces → Pieces) (Defs → Defs) Exp (Pat × Exp) dec_layer form_layer piece_layer def_layer exp_layer rule_layer
+unfoldable pub region_piece : RPiece → Piece
+region_piece = fold-RPiece Dec Form Piece (Head × List (Pat × Exp)) Exp (Pat × Exp) dec_layer form_layer piece_layer def_layer exp_layer rule_layer
 
-unfoldable pub region_def : FixDef → Defs → Defs
-region_def = fold-FixDef (Decs → Decs) Form (Pieces → Pieces) (Defs → Defs) Exp (Pat × Exp) dec_layer form_layer piece_layer def_layer exp_layer rule_layer
+unfoldable pub region_def : FixDef → Head × List (Pat × Exp)
+region_def = fold-FixDef Dec Form Piece (Head × List (Pat × Exp)) Exp (Pat × Exp) dec_layer form_layer piece_layer def_layer exp_layer rule_layer
 
-unfoldable pub region_dec : RDec → Decs → Decs
-region_dec = fold-RDec (Decs → Decs) Form (Pieces → Pieces) (Defs → Defs) Exp (Pat × Exp) dec_layer form_layer piece_layer def_layer exp_layer rule_layer
+unfoldable pub region_dec : RDec → Dec
+region_dec = fold-RDec Dec Form Piece (Head × List (Pat × Exp)) Exp (Pat × Exp) dec_layer form_layer piece_layer def_layer exp_layer rule_layer
 
 -- a program
 abbrev pub region_argument : Option RTy → Option RegionType

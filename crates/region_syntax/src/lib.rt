@@ -2,6 +2,7 @@
 #![tactic(auto)]
 
 mod copy;
+mod erase;
 mod laws;
 mod region;
 mod specialised;
