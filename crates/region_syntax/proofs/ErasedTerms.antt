@@ -603,7 +603,7 @@ pub fix_erased : (t : GroundType) (f : RExpForm) (m : MExp) (ds : List FixDef) (
 unfolding form_erasure exp_erasure erased_exp
 fix_erased t f m ds a group ys y qs h h0 h1 hys hqs made =
     let defs : g.decs_of (map ground_dec ys) ≡ g.funs (erased_defs (r.defs_of (map region_def ds))) g.no_decs
-        = ap (λ z. g.decs_of (map ground_dec z)) hys ∙ ap (λ z. g.decs_of (z ∷ [])) (ground_fun group ∙ ap (λ z. g.fun_dec (g.defs_of z)) h0 ∙ ap g.fun_dec (sym (defs_trees ds)))
+    = ap (λ z. g.decs_of (map ground_dec z)) hys ∙ ap (λ z. g.decs_of (z ∷ [])) (ground_fun group ∙ ap (λ z. g.fun_dec (g.defs_of z)) h0 ∙ ap g.fun_dec (sym (defs_trees ds)))
     in let body : g.exps_of (map ground_exp qs) ≡ g.exps (erased_exp (region_exp a)) g.no_exps = ap (λ z. g.exps_of (map ground_exp z)) hqs ∙ ap (λ z. g.exps z g.no_exps) h1
     in made ∙ ap (g.exp t) (ground_let ys qs ∙ ap₂ g.Let defs body) ∙ sym (ap (λ z. erased_form t (region_form z)) h ∙ ap (erased_form t) (region_fix ds a))
 

@@ -112,7 +112,11 @@ fn erase_form(alloc: Global, ty: &RTy, form: &RExpForm) -> Result<MExp, NoMemory
             let x = erase_box(alloc, x)?;
             typed(alloc, ty, MExpForm::Either(x, erase_box(alloc, y)?))
         }
-        RExpForm::Quote(pieces, _) => typed(alloc, ty, MExpForm::Quote(erase_pieces(alloc, pieces)?)),
+        RExpForm::Quote(pieces, _) => typed(
+            alloc,
+            ty,
+            MExpForm::Quote(erase_pieces(alloc, pieces)?),
+        ),
         RExpForm::LetRegion(_, body) => erase_exp(alloc, body.get()),
         RExpForm::Fix(group, body) => {
             let group = one(alloc, MDec::ValRec(erase_group(alloc, group)?))?;
@@ -161,15 +165,6 @@ fn erase_rule(alloc: Global, rule: &RRule) -> Result<MRule, NoMemory>
 }
 
 #[cycle(term_erasures)]
-#[tactic(auto, using(crate::proofs::ErasedTerms::binding_erased))]
-fn erase_binding(alloc: Global, bind: &(RPat, RExp)) -> Result<(MPat, MExp), NoMemory>
-    ensures { IfOk result (λ b. ground_binding b ≡ binding_erasure bind.now) }
-{
-    let pat = erase_pat(alloc, &bind.0)?;
-    Ok((pat, erase_exp(alloc, &bind.1)?))
-}
-
-#[cycle(term_erasures)]
 #[tactic(auto, using(crate::proofs::ErasedTerms::plain_erased, crate::proofs::ErasedTerms::anti_erased))]
 fn erase_piece(alloc: Global, piece: &RPiece) -> Result<MPiece, NoMemory>
     ensures { IfOk result (λ p. ground_piece p ≡ piece_erasure piece.now) }
@@ -190,12 +185,19 @@ fn erase_def(alloc: Global, def: &FixDef) -> Result<(Text, Listed<MRule>), NoMem
 }
 
 #[cycle(term_erasures)]
-#[tactic(auto, using(crate::proofs::ErasedTerms::val_erased, crate::proofs::ErasedTerms::fun_erased, crate::proofs::ErasedTerms::local_erased))]
+#[tactic(auto, using(crate::proofs::Lists::pushed, crate::proofs::ErasedTerms::binding_erased, crate::proofs::ErasedTerms::val_erased, crate::proofs::ErasedTerms::fun_erased, crate::proofs::ErasedTerms::local_erased))]
 fn erase_dec(alloc: Global, dec: &RDec) -> Result<MDec, NoMemory>
     ensures { IfOk result (λ d. ground_dec d ≡ dec_erasure dec.now) }
 {
     match dec {
-        RDec::Val(binds) => Ok(MDec::Val(erase_bindings(alloc, binds)?)),
+        RDec::Val(binds) => {
+            let mut erased = Vec::new(alloc);
+            for bind in binds.as_slice() {
+                let pat = erase_pat(alloc, &bind.0)?;
+                erased.push((pat, erase_exp(alloc, &bind.1)?))?;
+            }
+            Ok(MDec::Val(Listed::of(erased)))
+        }
         RDec::ValRec(group) => Ok(MDec::ValRec(erase_group(alloc, group)?)),
         RDec::Local(hidden, shown) => {
             let hidden = erase_decs(alloc, hidden)?;
@@ -230,18 +232,6 @@ fn erase_rules(alloc: Global, rules: &Listed<RRule>) -> Result<Listed<MRule>, No
 
 #[cycle(term_erasures)]
 #[tactic(auto, using(crate::proofs::Lists::pushed))]
-fn erase_bindings(alloc: Global, bindings: &Listed<(RPat, RExp)>) -> Result<Listed<(MPat, MExp)>, NoMemory>
-    ensures { IfOk result (λ es. map ground_binding es ≡ map binding_erasure bindings.now) }
-{
-    let mut erased = Vec::new(alloc);
-    for bind in bindings.as_slice() {
-        erased.push(erase_binding(alloc, bind)?)?;
-    }
-    Ok(Listed::of(erased))
-}
-
-#[cycle(term_erasures)]
-#[tactic(auto, using(crate::proofs::Lists::pushed))]
 fn erase_pieces(alloc: Global, pieces: &Listed<RPiece>) -> Result<Listed<MPiece>, NoMemory>
     ensures { IfOk result (λ es. map ground_piece es ≡ map piece_erasure pieces.now) }
 {
@@ -254,7 +244,10 @@ fn erase_pieces(alloc: Global, pieces: &Listed<RPiece>) -> Result<Listed<MPiece>
 
 #[cycle(term_erasures)]
 #[tactic(auto, using(crate::proofs::Lists::pushed))]
-fn erase_group(alloc: Global, group: &Listed<FixDef>) -> Result<Listed<(Text, Listed<MRule>)>, NoMemory>
+fn erase_group(
+    alloc: Global,
+    group: &Listed<FixDef>,
+) -> Result<Listed<(Text, Listed<MRule>)>, NoMemory>
     ensures { IfOk result (λ es. map ground_def es ≡ map def_erasure group.now) }
 {
     let mut erased = Vec::new(alloc);

@@ -9,8 +9,8 @@ invariant-erase_exps-loop-exp l = map ground_exp l.erased.items ≡ map exp_eras
 abbrev pub invariant-erase_rules-loop-rule : goal.invariant-erase_rules-loop-rule
 invariant-erase_rules-loop-rule l = map ground_rule l.erased.items ≡ map rule_erasure (take l.rule-index l.rule-items)
 
-abbrev pub invariant-erase_bindings-loop-bind : goal.invariant-erase_bindings-loop-bind
-invariant-erase_bindings-loop-bind l = map ground_binding l.erased.items ≡ map binding_erasure (take l.bind-index l.bind-items)
+abbrev pub invariant-erase_dec-loop-bind : goal.invariant-erase_dec-loop-bind
+invariant-erase_dec-loop-bind l = map ground_binding l.erased.items ≡ map binding_erasure (take l.bind-index l.bind-items)
 
 abbrev pub invariant-erase_pieces-loop-piece : goal.invariant-erase_pieces-loop-piece
 invariant-erase_pieces-loop-piece l = map ground_piece l.erased.items ≡ map piece_erasure (take l.piece-index l.piece-items)
