@@ -1,3 +1,2 @@
-pub mod Lists
-pub mod ErasedTypes
-pub mod ErasedTerms
+pub mod Costs
+pub mod Failing

@@ -3,3 +3,7 @@ pub mod RegionTypes
 pub mod GroundTerms
 pub mod RegionTerms
 pub mod Erasure
+pub mod Effects
+pub mod Cost
+pub mod PrimitiveTypes
+pub mod RegionTyping

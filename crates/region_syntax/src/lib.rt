@@ -2,7 +2,6 @@
 #![tactic(auto)]
 
 mod copy;
-mod erase;
 mod laws;
 mod region;
 mod specialised;

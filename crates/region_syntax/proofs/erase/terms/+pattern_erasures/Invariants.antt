@@ -1,7 +1,0 @@
-use Rattle.std.proofs.Common.{◌≡◌, map, take}
-use Rattle.region_syntax.specs.GroundTerms.{ground_pat}
-use Rattle.region_syntax.specs.Erasure.{pat_erasure}
-use Rattle.region_syntax.proofs.erase.terms.+pattern_erasures.Given as goal
-
-abbrev pub invariant-erase_pats-loop-pat : goal.invariant-erase_pats-loop-pat
-invariant-erase_pats-loop-pat l = map ground_pat l.erased.items ≡ map pat_erasure (take l.pat-index l.pat-items)
