@@ -1,8 +1,9 @@
 -- The first failing node, and the answers of all.
 use Rattle.std.proofs.Common.{◌≡◌, ℕ, suc, Bool, true, false, List, [], ◌∷◌, Option, Some, None, refl, ap}
 use Rattle.std.specs.Option.{option_map}
-use Rattle.region_syntax.specs.RegionTerms.{Exp}
-use Rattle.region_syntax.specs.RegionTyping.{Tables, Context, answers, first_failing, all_hold}
+use Rattle.region_syntax.specs.RegionTerms.{Program}
+use Rattle.region_syntax.specs.RegionTyping.{first_failing, all_hold}
+use Rattle.region_syntax.specs.TopLevel.{program_answers}
 
 no_successor : (o : Option ℕ) → option_map suc o ≡ None → o ≡ None
 no_successor None e = refl
@@ -20,8 +21,8 @@ none_from [] e = refl
 none_from (true ∷ bs) e = ap (option_map suc) (none_from bs e)
 none_from (false ∷ bs) e = absurd (cc)
 
-pub all_from_none : (tables : Tables) (c : Context) (e : Exp) → first_failing (answers tables c e) ≡ None → all_hold (answers tables c e) ≡ true
-all_from_none tables c e h = all_from (answers tables c e) h
+pub all_from_none : (p : Program) → first_failing (program_answers p) ≡ None → all_hold (program_answers p) ≡ true
+all_from_none p h = all_from (program_answers p) h
 
-pub none_from_all : (tables : Tables) (c : Context) (e : Exp) → all_hold (answers tables c e) ≡ true → first_failing (answers tables c e) ≡ None
-none_from_all tables c e h = none_from (answers tables c e) h
+pub none_from_all : (p : Program) → all_hold (program_answers p) ≡ true → first_failing (program_answers p) ≡ None
+none_from_all p h = none_from (program_answers p) h

@@ -7,3 +7,4 @@ pub mod Effects
 pub mod Cost
 pub mod PrimitiveTypes
 pub mod RegionTyping
+pub mod TopLevel

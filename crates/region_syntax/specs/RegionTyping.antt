@@ -12,7 +12,7 @@ use Rattle.region_syntax.specs.GroundTypes as g
 use Rattle.region_syntax.specs.GroundTypes.{GroundType, GroundTypes}
 use Rattle.region_syntax.specs.GroundTerms.{Datatype}
 use Rattle.region_syntax.specs.RegionTypes as t
-use Rattle.region_syntax.specs.RegionTypes.{RegionType, RegionTypes}
+use Rattle.region_syntax.specs.RegionTypes.{RegionType, RegionTypes, erased_type}
 use Rattle.region_syntax.specs.RegionTerms as r
 use Rattle.region_syntax.specs.Effects.{same_place, is_number_in, no_effect, on, both, within, without, same_type, same_types, all_of, is_free_of, on_type, placed, place_for, effect_for, put}
 use Rattle.region_syntax.specs.PrimitiveTypes.{primitive_fits}
@@ -325,6 +325,50 @@ unfoldable pub is_application : RegionType → RegionType → RegionType → Boo
 is_application (t.Arrow p a e b) x y = same_type a x && same_type b y
 is_application _ x y = false
 
+-- The datatypes whose values may be compared: the greatest choice by which the arguments of their constructors may, the parameters taken as types that
+-- may. Functions, packets, descriptions, caches and their kinds may not, references always may (the Definition of Standard ML, section 4.4).
+unfoldable mutual
+  pub admits : List Bool → GroundType → Bool
+  admits choice g.Int = true
+  admits choice g.Char = true
+  admits choice g.Str = true
+  admits choice g.Unit = true
+  admits choice g.Exn = false
+  admits choice (g.Tuple ts) = all_admit choice ts
+  admits choice (g.Arrow a b) = false
+  admits choice (g.Data n ts) = option_map_or (λ b. b) (slice_get choice n) false && all_admit choice ts
+  admits choice (g.Ref a) = true
+  admits choice (g.Cache a b) = false
+  admits choice (g.Desc a) = false
+  admits choice (g.Var n) = true
+
+  pub all_admit : List Bool → GroundTypes → Bool
+  all_admit choice g.no_types = true
+  all_admit choice (g.types x xs) = admits choice x && all_admit choice xs
+
+unfoldable pub arguments_admit : List Bool → List (List ℕ × Option GroundType) → Bool
+arguments_admit choice [] = true
+arguments_admit choice ((name, None) ∷ cs) = arguments_admit choice cs
+arguments_admit choice ((name, Some a) ∷ cs) = admits choice a && arguments_admit choice cs
+
+-- the datatypes from a number on that still may; the kinds of caches, which are the sixth, may not
+unfoldable pub refined : List Bool → ℕ → List Datatype → List Bool
+refined choice n [] = []
+refined choice n (d ∷ ds) = (if nat_eq n 5 then false else arguments_admit choice d.constructors) ∷ refined choice (suc n) ds
+
+unfoldable pub chosen : ℕ → List Datatype → List Bool → List Bool
+chosen zero ds choice = choice
+chosen (suc n) ds choice = chosen n ds (refined choice 0 ds)
+
+abbrev pub equality_choice : List Datatype → List Bool
+equality_choice ds = chosen (suc (length ds)) ds (map (λ d. true) ds)
+
+-- a comparison stands only at a type whose values may be compared
+unfoldable pub comparison_fits : Tables → List ℕ → RegionType → Bool
+comparison_fits tables name (t.Arrow p (t.Tuple q (t.types a ts)) e b) =
+    if bytes_eq name (codes "=") || bytes_eq name (codes "<>") then admits (equality_choice tables.datatypes) (erased_type a) else true
+comparison_fits tables name _ = true
+
 -- whether the node's own rule holds
 unfoldable pub pat_fits : Tables → RegionType → r.PatForm → Bool
 pat_fits tables a r.AnyPat = true
@@ -346,7 +390,7 @@ fits tables c a (r.Int n) = same_type a t.Int
 fits tables c a (r.Char n) = same_type a t.Char
 fits tables c a (r.Str text at) = same_type a (t.Str at)
 fits tables c a (r.Name name) = is_name (scheme_of name c) a
-fits tables c a (r.Prim name) = primitive_fits name a
+fits tables c a (r.Prim name) = primitive_fits name a && comparison_fits tables name a
 fits tables c a (r.Con k) = constructor_fits tables k a
 fits tables c a r.Unit = same_type a t.Unit
 fits tables c a (r.Tuple es at) = is_tuple a at (types_of_exps es)

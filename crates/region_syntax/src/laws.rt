@@ -5,8 +5,9 @@ ghost use Rattle.region_syntax.specs.declared.types.RTy.{RTy};
 ghost use Rattle.region_syntax.specs.Erasure.{exp_erasure};
 ghost use Rattle.region_syntax.specs.RegionTypes.{region_type};
 ghost use Rattle.region_syntax.specs.Effects.{all_of, placed, put};
-ghost use Rattle.region_syntax.specs.RegionTerms.{Exp};
-ghost use Rattle.region_syntax.specs.RegionTyping.{Tables, Context, answers, first_failing, all_hold};
+ghost use Rattle.region_syntax.specs.RegionTerms.{Program};
+ghost use Rattle.region_syntax.specs.RegionTyping.{first_failing, all_hold};
+ghost use Rattle.region_syntax.specs.TopLevel.{program_answers};
 ghost use Rattle.region_syntax.specs.Cost.{IsWork, IsDepth};
 
 /// A copy of a specialised term has the same twin.
@@ -22,9 +23,9 @@ pub fn work_and_depth_are_one()
     ensures depth { (count : ℕ → ℕ) (w c d : ℕ) → IsDepth count w c → IsDepth count w d → c ≡ d }
 {}
 
-/// No node of a term is the first that fails exactly where the own rule of each node holds.
+/// No node of a program is the first that fails exactly where the own rule of each node holds.
 #[tactic(auto, using(crate::proofs::Failing::all_from_none, crate::proofs::Failing::none_from_all))]
 pub fn none_fails_where_all_hold()
-    ensures none { (tables : Tables) (c : Context) (e : Exp) → first_failing (answers tables c e) ≡ None → all_hold (answers tables c e) ≡ true }
-    ensures all { (tables : Tables) (c : Context) (e : Exp) → all_hold (answers tables c e) ≡ true → first_failing (answers tables c e) ≡ None }
+    ensures none { (p : Program) → first_failing (program_answers p) ≡ None → all_hold (program_answers p) ≡ true }
+    ensures all { (p : Program) → all_hold (program_answers p) ≡ true → first_failing (program_answers p) ≡ None }
 {}
