@@ -1,4 +1,4 @@
-//! Tests of what stands below the machine: the stores of regions and their pages.
+//! Tests of what stands below the machine: the stores of regions and their pages, and the terms with regions.
 #![tactic(auto)]
 
 #[cfg(test)]
@@ -6,7 +6,13 @@ mod answer;
 #[cfg(test)]
 mod calls;
 #[cfg(test)]
+mod copied;
+#[cfg(test)]
 mod list_body;
+#[cfg(test)]
+mod region_terms;
+#[cfg(test)]
+mod specialised_terms;
 #[cfg(test)]
 mod stores;
 #[cfg(test)]

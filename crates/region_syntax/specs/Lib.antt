@@ -1,0 +1,10 @@
+pub mod GroundTypes
+pub mod RegionTypes
+pub mod GroundTerms
+pub mod RegionTerms
+pub mod Erasure
+pub mod Effects
+pub mod Cost
+pub mod PrimitiveTypes
+pub mod RegionTyping
+pub mod TopLevel

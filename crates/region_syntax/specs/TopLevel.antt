@@ -1,0 +1,160 @@
+-- The rules of a program's items, and the answers of all its nodes. Of this project.
+use Rattle.std.specs.Prelude.{ℕ, zero, suc, nat_eq, Bool, true, false, ◌&&◌, if◌then◌else◌, List, [], ◌∷◌, ◌++◌, length, map, take, Option, Some, None, codes}
+use Rattle.std.specs.List.{list_all}
+use Rattle.std.specs.Str.{bytes_eq}
+use Rattle.region_syntax.specs.declared.types.Place.{Place}
+use Rattle.region_syntax.specs.declared.types.Place.TheVariants as place
+use Rattle.region_syntax.specs.declared.types.Effect.{Effect}
+use Rattle.region_syntax.specs.GroundTypes as g
+use Rattle.region_syntax.specs.GroundTypes.{GroundType, GroundTypes}
+use Rattle.region_syntax.specs.GroundTerms.{Datatype}
+use Rattle.region_syntax.specs.RegionTypes.{RegionType}
+use Rattle.region_syntax.specs.RegionTypes as t
+use Rattle.region_syntax.specs.RegionTerms as r
+use Rattle.region_syntax.specs.Effects.{is_number_in, effect_of, on, within, same_ground, same_type, all_of}
+use Rattle.region_syntax.specs.Cost.{distinct}
+use Rattle.region_syntax.specs.RegionTyping.{Scheme, mono, poly, Context, Tables, type_of, is_val, is_group, bound_by_rules, with_group, after, shown_by, bindings_effect, group_effect, bindings_answers, defs_answers, effect}
+
+-- the basis in front of the program's own datatypes and exceptions
+abbrev pub datatype_of : ℕ → List (List ℕ × Option GroundType) → Datatype
+datatype_of params constructors = record { params = params; constructors = constructors }
+
+abbrev pub pair_of : GroundType → GroundType → GroundType
+pair_of a b = g.Tuple (g.types a (g.types b g.no_types))
+
+-- `int option`
+abbrev pub limit_type : GroundType
+limit_type = g.Data 2 (g.types g.Int g.no_types)
+
+abbrev pub basis_datatypes : List Datatype
+basis_datatypes =
+    datatype_of 0 ((codes "false", None) ∷ (codes "true", None) ∷ [])
+    ∷ datatype_of 1 ((codes "nil", None) ∷ (codes "::", Some (pair_of (g.Var 0) (g.Data 1 (g.types (g.Var 0) g.no_types)))) ∷ [])
+    ∷ datatype_of 1 ((codes "NONE", None) ∷ (codes "SOME", Some (g.Var 0)) ∷ [])
+    ∷ datatype_of 0 ((codes "LESS", None) ∷ (codes "EQUAL", None) ∷ (codes "GREATER", None) ∷ [])
+    ∷ datatype_of 1 ((codes "QUOTE", Some g.Str) ∷ (codes "ANTIQUOTE", Some (g.Var 0)) ∷ [])
+    ∷ datatype_of 0 ((codes "Web.Cache.WhileUsed", Some (pair_of limit_type limit_type)) ∷ (codes "Web.Cache.TimeOut", Some (pair_of limit_type limit_type)) ∷ [])
+    ∷ []
+
+abbrev pub basis_exceptions : List (List ℕ × Option RegionType)
+basis_exceptions =
+    (codes "Match", None) ∷ (codes "Bind", None) ∷ (codes "Div", None) ∷ (codes "Overflow", None) ∷ (codes "Subscript", None)
+    ∷ (codes "Chr", None) ∷ (codes "Empty", None) ∷ (codes "Option", None) ∷ (codes "Fail", Some (t.Str place.Global)) ∷ []
+
+-- the first items of a list are these
+unfoldable pub begins_with : {A : Type 0} → (A → A → Bool) → List A → List A → Bool
+begins_with same [] ys = true
+begins_with same (x ∷ xs) [] = false
+begins_with same (x ∷ xs) (y ∷ ys) = same x y && begins_with same xs ys
+
+unfoldable pub same_argument : {A : Type 0} → (A → A → Bool) → Option A → Option A → Bool
+same_argument same None None = true
+same_argument same (Some a) (Some b) = same a b
+same_argument same _ _ = false
+
+abbrev pub same_constructor : {A : Type 0} → (A → A → Bool) → List ℕ × Option A → List ℕ × Option A → Bool
+same_constructor same c d = bytes_eq c.0 d.0 && same_argument same c.1 d.1
+
+abbrev pub same_datatype : Datatype → Datatype → Bool
+same_datatype d e =
+    nat_eq d.params e.params && begins_with (same_constructor same_ground) d.constructors e.constructors && begins_with (same_constructor same_ground) e.constructors d.constructors
+
+-- the effect holds no place but the global one, and no variable
+abbrev pub is_global : Effect → Bool
+is_global e = within e (on place.Global)
+
+-- the type of an exception's argument has no place but the global one, in its effects neither
+unfoldable pub argument_is_global : Option RegionType → Bool
+argument_is_global None = true
+argument_is_global (Some a) = is_global (all_of a)
+
+abbrev pub tables_fit : Tables → Bool
+tables_fit tables =
+    begins_with same_datatype basis_datatypes tables.datatypes && begins_with (same_constructor same_type) basis_exceptions tables.exceptions
+    && list_all (λ e. argument_is_global e.1) tables.exceptions
+
+-- what names stand for has no place but the global one, other than those that a scheme binds
+unfoldable pub scheme_is_global : Scheme → Bool
+scheme_is_global (mono a) = is_global (all_of a)
+scheme_is_global (poly rs es at a) = is_global (on at) && within (all_of a) (effect_of (place.Global ∷ map place.Reg rs) es)
+
+abbrev pub names_are_global : Context → Bool
+names_are_global c = list_all (λ entry. scheme_is_global entry.1) c
+
+-- the expressions of the bindings of an item
+unfoldable pub values_are_global : r.Rules → Bool
+values_are_global r.no_rules = true
+values_are_global (r.rules p e rs) = is_global (all_of (type_of e)) && values_are_global rs
+
+-- The regions and effect variables that the groups and fresh regions of a term bind.
+unfoldable mutual
+  pub binders : r.Exp → List ℕ
+  binders (r.exp a form) = form_binders form
+
+  pub form_binders : r.Form → List ℕ
+  form_binders (r.Tuple es at) = exps_binders es
+  form_binders (r.List_of es at) = exps_binders es
+  form_binders (r.Seq es) = exps_binders es
+  form_binders (r.App f e) = binders f ++ binders e
+  form_binders (r.Let ds es) = decs_binders ds ++ exps_binders es
+  form_binders (r.Fn rs at) = rules_binders rs
+  form_binders (r.Case e rs) = binders e ++ rules_binders rs
+  form_binders (r.Handle e rs) = binders e ++ rules_binders rs
+  form_binders (r.Raise e) = binders e
+  form_binders (r.If x y z) = binders x ++ (binders y ++ binders z)
+  form_binders (r.Both x y) = binders x ++ binders y
+  form_binders (r.Either x y) = binders x ++ binders y
+  form_binders (r.Quote ps at) = pieces_binders ps
+  form_binders (r.LetRegion rs e) = rs ++ binders e
+  form_binders (r.Fix ds e) = distinct (defs_regions ds) ++ (defs_binders ds ++ binders e)
+  form_binders _ = []
+
+  pub exps_binders : r.Exps → List ℕ
+  exps_binders r.no_exps = []
+  exps_binders (r.exps e es) = binders e ++ exps_binders es
+
+  pub rules_binders : r.Rules → List ℕ
+  rules_binders r.no_rules = []
+  rules_binders (r.rules p e rs) = binders e ++ rules_binders rs
+
+  pub pieces_binders : r.Pieces → List ℕ
+  pieces_binders r.no_pieces = []
+  pieces_binders (r.plain text ps) = pieces_binders ps
+  pieces_binders (r.anti e ps) = binders e ++ pieces_binders ps
+
+  pub defs_binders : r.Defs → List ℕ
+  defs_binders r.no_defs = []
+  defs_binders (r.defs head rs ds) = rules_binders rs ++ defs_binders ds
+
+  -- the regions that the names of a group bind
+  pub defs_regions : r.Defs → List ℕ
+  defs_regions r.no_defs = []
+  defs_regions (r.defs head rs ds) = head.regions ++ defs_regions ds
+
+  pub decs_binders : r.Decs → List ℕ
+  decs_binders r.no_decs = []
+  decs_binders (r.vals bs ds) = rules_binders bs ++ decs_binders ds
+  decs_binders (r.funs group ds) = distinct (defs_regions group) ++ (defs_binders group ++ decs_binders ds)
+  decs_binders (r.locals hidden shown ds) = decs_binders hidden ++ (decs_binders shown ++ decs_binders ds)
+
+-- each region is bound once, by a fresh region or by the names of one group
+unfoldable pub are_distinct : List ℕ → Bool
+are_distinct [] = true
+are_distinct (n ∷ ns) = if is_number_in n ns then false else are_distinct ns
+
+-- The answers of the items and their parts, in preorder; the declarations of a `local` are items too.
+unfoldable mutual
+  pub item_answers : Bool → Tables → Context → r.Decs → List Bool
+  item_answers once tables c r.no_decs = []
+  item_answers once tables c (r.vals bs ds) =
+      (once && tables_fit tables && is_val bs && values_are_global bs && names_are_global (bound_by_rules bs) && is_global (bindings_effect c bs))
+      ∷ (bindings_answers tables c bs ++ item_answers once tables (bound_by_rules bs ++ c) ds)
+  item_answers once tables c (r.funs group ds) =
+      (once && tables_fit tables && is_group c group && names_are_global (with_group group []) && is_global (group_effect group))
+      ∷ (defs_answers tables (with_group group c) group ++ item_answers once tables (with_group group c) ds)
+  item_answers once tables c (r.locals hidden shown ds) =
+      (once && tables_fit tables) ∷ (item_answers once tables c hidden ++ (item_answers once tables (after hidden c) shown ++ item_answers once tables (shown_by shown (after hidden c) ++ c) ds))
+
+-- Those of a program. Where a region is bound more than once, or the basis isn't in front, every item fails.
+abbrev pub program_answers : r.Program → List Bool
+program_answers p = item_answers (are_distinct (decs_binders p.items)) (record { datatypes = p.datatypes; exceptions = p.exceptions }) [] p.items

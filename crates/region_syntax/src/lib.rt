@@ -1,0 +1,12 @@
+//! Specialised and region terms: the trees between typing and code, and the erasure of the regions.
+#![tactic(auto)]
+
+mod copy;
+mod laws;
+mod region;
+mod specialised;
+mod types;
+
+pub use region::{FixDef, RDec, RExp, RExpForm, RPat, RPatForm, RPiece, RProgram, RRule};
+pub use specialised::{Constructor, MDec, MExp, MExpForm, MPat, MPatForm, MPiece, MProgram, MRule};
+pub use types::{Effect, MData, MTy, Place, RTy};
