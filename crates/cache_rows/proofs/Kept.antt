@@ -11,7 +11,7 @@ module _ {K V : Type 0} (size : K → V → ℕ) where
   sizes-append [] ys = omega arith
   sizes-append (x ∷ xs) ys = let h = sizes-append xs ys in omega (arith, h)
 
-  sizes-filter : (test : Row K V → Bool) (rows : List (Row K V)) → sizes size (filter test rows) ≤ sizes size rows
+  pub sizes-filter : (test : Row K V → Bool) (rows : List (Row K V)) → sizes size (filter test rows) ≤ sizes size rows
   sizes-filter test [] = omega arith
   sizes-filter test (r ∷ rows) = by (test r) (sizes-filter test rows)
     where

@@ -24,7 +24,7 @@ first-new xs f l y h g = record {
   at_is = refl;
   least_is = refl;
   older = subst (AllByRecursion (λ r. y.stamp < r.stamp)) (sym h.whole)
-    (let e = h.least_is in all-append _ h.before (h.row ∷ h.after) (all-weaker _ _ (λ x k. omega (arith, k, g, e)) h.before h.older) (omega (arith, g, e), all-weaker _ _ (λ x k. omega (arith, k, g, e)) h.after h.younger));
+      (let e = h.least_is in all-append _ h.before (h.row ∷ h.after) (all-weaker _ _ (λ x k. omega (arith, k, g, e)) h.before h.older) (omega (arith, g, e), all-weaker _ _ (λ x k. omega (arith, k, g, e)) h.after h.younger));
   younger = tt;
 }
 
@@ -48,12 +48,12 @@ module _ (rows : List PickleRow) (at f l : ℕ) (y : PickleRow) (h : at < length
   first-then g k less same least =
       let n : length (take at rows) ≡ at = length-take at rows ∙ min-eq_left (omega (arith, h)) in
       subst (λ z. FirstToLeave z g k) (sym (more rows at y h e))
-        (subst (λ z. FirstToLeave (take at rows ++ y ∷ []) z k) (n ∙ sym same) (subst (λ z. FirstToLeave (take at rows ++ y ∷ []) (length (take at rows)) z) (sym least) (first-new (take at rows) f l y so_far less)))
+      (subst (λ z. FirstToLeave (take at rows ++ y ∷ []) z k) (n ∙ sym same) (subst (λ z. FirstToLeave (take at rows ++ y ∷ []) (length (take at rows)) z) (sym least) (first-new (take at rows) f l y so_far less)))
 
   pub first-else : (g k : ℕ) → l ≤ y.stamp → g ≡ f → k ≡ l → FirstToLeave (take (at + 1) rows) g k
   first-else g k less same least =
       subst (λ z. FirstToLeave z g k) (sym (more rows at y h e))
-        (subst (λ z. FirstToLeave (take at rows ++ y ∷ []) z k) (sym same) (subst (λ z. FirstToLeave (take at rows ++ y ∷ []) f z) (sym least) (first-old (take at rows) f l y so_far less)))
+      (subst (λ z. FirstToLeave (take at rows ++ y ∷ []) z k) (sym same) (subst (λ z. FirstToLeave (take at rows ++ y ∷ []) f z) (sym least) (first-old (take at rows) f l y so_far less)))
 
 -- the row that leaves first goes where the rows have more bytes
 pub shrinks : (most sum f l : ℕ) (rows rest : List PickleRow) → FirstToLeave rows f l → sum ≡ min (sizes pickle_size rows) (2 ^ 128 - 1) → most < sum → rest ≡ remove rows f → kept pickle_size most [] rest ≡ kept pickle_size most [] rows
@@ -105,6 +105,7 @@ module _ (kind : Kind) (now : ℕ) (key : List ℕ) (old new : List PickleRow) (
       by : (b : Bool) (place : At old at row) → cond b (slice_set old at (record { key = row.key; value = row.value; stamp = now })) old ≡ place.before ++ used b now row ∷ place.after
       by true place = place.with _
       by false place = place.whole
+
       still : (b : Bool) → stays kind.time now (used b now row).stamp ≡ true
       still true = fresh-stays kind.time row.stamp alive
       still false = alive

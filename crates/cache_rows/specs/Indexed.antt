@@ -1,10 +1,10 @@
 -- Rows by their keys and by the order in which they leave: what maps with births mean, and what is true of them.
-use Rattle.std.specs.Prelude.{◌≡◌, ℕ, ◌+◌, ◌%◌, ◌^◌, ◌≤◌, ◌<◌, List, [], ◌∷◌, ◌++◌, suc, map, length, Bool, true, false, Option, Some, None, nat_eq}
+use Rattle.std.specs.Prelude.{◌≡◌, ℕ, ◌≤◌, ◌<◌, List, [], ◌∷◌, ◌++◌, suc, map, length, Bool, true, false, Option, Some, None, nat_eq}
 use Rattle.std.specs.Ordering.{nat_cmp, ordering_then}
 use Rattle.std.specs.declared.cmp.Ordering.{Ordering}
 use Rattle.std.specs.Cmp.Lexicographic.{pointwise}
 use Rattle.std.specs.List.{AllByRecursion, IsDistinct}
-use Rattle.std.specs.Map.{keys_of, lookup}
+use Rattle.std.specs.Map.{keys_of, lookup, set_value}
 use Rattle.std.specs.BTreeMap.{is_at}
 use Rattle.std.specs.declared.alloc.Global.{Global}
 use Rattle.std.specs.declared.vec.Vec.{Vec}
@@ -46,12 +46,20 @@ key_at q ps = lookup (is_at (by_place q)) ps
 abbrev pub same_key : Vec ℕ Global → Vec ℕ Global → Bool
 same_key x y = pointwise nat_eq x.items y.items
 
+-- the test of a key's bytes
+abbrev pub is_key : List ℕ → Vec ℕ Global → Bool
+is_key key k = pointwise nat_eq key k.items
+
+-- where the key has an entry, that entry gets a stamp
+abbrev pub Restamps : List ℕ → ℕ → List Entry → List Entry → Type 0
+Restamps key stamp old new = (cell : Cell) → lookup (is_key key) old ≡ Some cell → new ≡ set_value (is_key key) old (record { value = cell.value; stamp = stamp; birth = cell.birth })
+
 -- what is true of rows by their keys, `es`, and their keys in the order in which they leave, `os`
 pub record Indexed (es : List Entry) (os : List ((ℕ × ℕ) × List ℕ)) (births total : ℕ) : Type 0 where
   pub rise : BirthsRise 0 es births
   pub differ : IsDistinct same_key (keys_of es)
   pub ordered : (q : ℕ × ℕ) → key_at q os ≡ key_at q (placed es)
-  pub total_is : total ≡ sizes pickle_size (rows_of es) % 2 ^ 128
+  pub total_is : total ≡ sizes pickle_size (rows_of es)
 
 -- a row under the key that stays is found, and may get a stamp
 pub record Touches (kind : Kind) (moment : ℕ) (key : List ℕ) (old : List PickleRow) (value : List ℕ) (new : List PickleRow) : Type 0 where

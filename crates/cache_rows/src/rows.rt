@@ -1,6 +1,6 @@
 // The rows in maps.
-ghost use Rattle.std.specs.Prelude.{◌≡◌, ◌<◌, ◌^◌, ℕ, [], ◌∷◌, ◌++◌, List, IfOk, OnErr};
-ghost use Rattle.cache_rows.specs.RowMachine.{Looks, Puts, PickleRow, LeavesOut, current, new_row, sizes, pickle_size, kept};
+ghost use Rattle.std.specs.Prelude.{◌≡◌, ℕ, [], ◌∷◌, ◌++◌, List, IfOk, OnErr};
+ghost use Rattle.cache_rows.specs.RowMachine.{Looks, Puts, PickleRow, LeavesOut, current, new_row, pickle_size, kept};
 
 use crate::row::stays;
 use crate::row_store::RowStore;
@@ -64,12 +64,7 @@ impl RowStore for Rows {
     }
 }
 
-fn look_up(
-    table: &mut Table,
-    kind: Kind,
-    now: u64,
-    key: &Text,
-) -> Result<Option<Text>, NoMemory>
+fn look_up(table: &mut Table, kind: Kind, now: u64, key: &Text) -> Result<Option<Text>, NoMemory>
     ensures ok { IfOk result (λ answer. Looks kind now key.now table.old answer table.new) }
     ensures err { OnErr result (table.new ≡ table.old) }
 {
@@ -136,7 +131,6 @@ fn add(
 
 /// Drops rows until they have at most so many bytes.
 fn shrink(table: &mut Table, most: u64)
-    requires { sizes pickle_size table.old < 2 ^ 128 }
     ensures { table.new ≡ kept pickle_size most [] table.old }
 {
     while table.sizes() > most as u128 {

@@ -1,7 +1,7 @@
 // Rows by their keys and by the order in which they leave.
-ghost use Rattle.std.specs.Prelude.{◌≡◌, ◌≤◌, ◌%◌, ◌^◌, ℕ, [], List, IfOk, OnErr, IsTrue, IsFalse};
+ghost use Rattle.std.specs.Prelude.{◌≡◌, ◌-◌, ◌^◌, ℕ, [], List, min, IfOk, OnErr, IsTrue, IsFalse};
 ghost use Rattle.cache_rows.specs.RowMachine.{PickleRow, LeavesOut, key_of, sizes, pickle_size, current};
-ghost use Rattle.cache_rows.specs.Indexed.{Entry, Answers, Replaces, LeavesFirst, rows_of};
+ghost use Rattle.cache_rows.specs.Indexed.{Answers, Replaces, Restamps, LeavesFirst, rows_of};
 
 use crate::row::stays;
 use indexmap::IndexMap;
@@ -24,7 +24,7 @@ pub(crate) struct Table {
     rows: IndexMap<Vec<u8>, Cell>,
     order: BTreeMap<(u64, u64), Text>,
     births: u64,
-    /// The sum of the rows' sizes, modulo 2^128.
+    /// The sum of the rows' sizes.
     sizes: u128,
     alloc: Global,
 }
@@ -54,9 +54,9 @@ impl Table {
         }
     }
 
-    /// The sum of the rows' sizes, modulo 2^128.
+    /// The sum of the rows' sizes.
     pub fn sizes(&self) -> u128
-        ensures { result ≡ sizes pickle_size self.now % 2 ^ 128 }
+        ensures { result ≡ sizes pickle_size self.now }
     {
         self.sizes
     }
@@ -84,9 +84,7 @@ impl Table {
         let (stamp, birth) = (cell.stamp, cell.birth);
         if kind.used && stamp != now {
             self.order.insert((now, birth), key.try_copy(self.alloc)?)?;
-            if let Some(cell) = self.rows.get_mut(key.as_bytes()) {
-                cell.stamp = now;
-            }
+            set_stamp(&mut self.rows, key.as_bytes(), now);
             self.order.remove(&(stamp, birth));
         }
         Ok(Some(value))
@@ -97,31 +95,36 @@ impl Table {
         ensures ok { IfOk result (λ stamp. Replaces now key.now value.now self.old stamp self.new) }
         ensures err { OnErr result (self.new ≡ self.old) }
     {
-        if self.births == u64::MAX {
+        let birth = self.births;
+        if birth == u64::MAX {
             return Err(NoMemory);
         }
         let name = Vec::from_slice(self.alloc, key.as_bytes())?;
         let value = value.try_copy(self.alloc)?;
-        self.rows.reserve(1)?;
-        self.order.insert((now, self.births), key.try_copy(self.alloc)?)?;
-        let old = self.rows.shift_remove(key.as_bytes());
-        let stamp = match old {
-            Some(cell) => {
-                self.order.remove(&(cell.stamp, cell.birth));
-                self.sizes = self.sizes.wrapping_sub(size_of(key, &cell.value));
-                Some(cell.stamp)
-            }
-            None => None,
+        let Some(sizes) = self.sizes.checked_add(size_of(key, &value)) else {
+            return Err(NoMemory);
         };
-        self.sizes = self.sizes.wrapping_add(size_of(key, &value));
+        self.rows.reserve(1)?;
+        self.order.insert((now, birth), key.try_copy(self.alloc)?)?;
+        let (stamp, sizes) = match self.rows.shift_remove(key.as_bytes()) {
+            Some(old) => {
+                self.order.remove(&(old.stamp, old.birth));
+                (
+                    Some(old.stamp),
+                    sizes.saturating_sub(size_of(key, &old.value)),
+                )
+            }
+            None => (None, sizes),
+        };
         let cell = Cell {
             value,
             stamp: now,
-            birth: self.births,
+            birth,
         };
         // There is room for it.
         let _ = self.rows.insert(name, cell);
-        self.births += 1;
+        self.births = birth + 1;
+        self.sizes = sizes;
         Ok(stamp)
     }
 
@@ -133,7 +136,7 @@ impl Table {
             return true;
         };
         self.order.remove(&(cell.stamp, cell.birth));
-        self.sizes = self.sizes.wrapping_sub(size_of(key, &cell.value));
+        self.sizes = self.sizes.saturating_sub(size_of(key, &cell.value));
         false
     }
 
@@ -146,7 +149,7 @@ impl Table {
             return false;
         };
         if let Some(cell) = self.rows.shift_remove(key.as_bytes()) {
-            self.sizes = self.sizes.wrapping_sub(size_of(&key, &cell.value));
+            self.sizes = self.sizes.saturating_sub(size_of(&key, &cell.value));
         }
         true
     }
@@ -155,13 +158,24 @@ impl Table {
     pub fn expire(&mut self, time: Option<u64>, now: u64)
         ensures { self.new ≡ current time now self.old }
     {
-        match self.order.first_key_value() {
-            Some((place, _)) if !stays(time, now, place.0) => {}
-            _ => return,
+        let Some((place, _)) = self.order.first_key_value() else {
+            return;
+        };
+        if stays(time, now, place.0) {
+            return;
         }
         self.rows.retain(|_, cell| stays(time, now, cell.stamp));
         self.order.retain(|place, _| stays(time, now, place.0));
         self.sizes = sizes_of(&self.rows);
+    }
+}
+
+/// Gives the key's row a stamp, if there is one.
+fn set_stamp(rows: &mut IndexMap<Vec<u8>, Cell>, key: &[u8], stamp: u64)
+    ensures { Restamps key.now stamp rows.old.entries rows.new.entries }
+{
+    if let Some(cell) = rows.get_mut(key) {
+        cell.stamp = stamp;
     }
 }
 
@@ -171,13 +185,13 @@ fn size_of(key: &Text, value: &Text) -> u128
     key.len() as u128 + value.len() as u128
 }
 
-/// The sum of the rows' sizes, modulo 2^128.
+/// The sum of the rows' sizes, as far as 128 bits hold it.
 fn sizes_of(rows: &IndexMap<Vec<u8>, Cell>) -> u128
-    ensures { result ≡ sizes pickle_size (rows_of rows.now.entries) % 2 ^ 128 }
+    ensures { result ≡ min (sizes pickle_size (rows_of rows.now.entries)) (2 ^ 128 - 1) }
 {
     let mut sum: u128 = 0;
     for (key, cell) in rows.iter() {
-        sum = sum.wrapping_add(key.len() as u128 + cell.value.len() as u128);
+        sum = sum.saturating_add(key.len() as u128 + cell.value.len() as u128);
     }
     sum
 }

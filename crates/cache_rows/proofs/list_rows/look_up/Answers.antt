@@ -14,12 +14,12 @@ returns-clause-ok c =
     let there : slice_get items at ≡ Some row = subst (λ xs. slice_get xs at ≡ Some row) c.as_slice.ensures.value e in
     let value = c.in_ok-value.ensures ∙ ap (λ (r : PickleRow). r.value) (c.index.ensures ∙ get_or_from_slice_get items at row _ there) in
     finds c.args.kind c.args.now c.args.key.now items _ at row there alive k c.in_ok-value.value value c.if-kind.rows.items
-      (elim c.if-kind.branch [
-        then-kind w ↦
+    (elim c.if-kind.branch [
+      | then-kind w ↦
           let lent = w.index_mut.ensures.value ∙ get_or_from_slice_get items at row _ there in
           ap (λ v. v.items) w.rows-is
           ∙ ((λ i. slice_set items at (record { key = (lent i).key; value = (lent i).value; stamp = c.args.now }))
           ∙ sym (if_so c.args.kind.used _ _ w.if-kind.true))
       | else-kind w ↦ ap (λ v. v.items) w.rows-is ∙ sym (if_not c.args.kind.used _ _ w.if-kind.false)
-      ])
-      c.drop_expired-2.ensures.items
+    ])
+    c.drop_expired-2.ensures.items
