@@ -1,16 +1,14 @@
 -- Entries and their places: what is looked up in a list without an entry, with another and filtered.
-use Rattle.std.proofs.Common.{◌≡◌, ℕ, suc, ◌+◌, ◌-◌, ◌<◌, ◌≤◌, ◌^◌, ◌⊎◌, inl, inr, List, [], ◌∷◌, ◌++◌, map, length, filter, Bool, true, false, cond, Option, Some, None, IsSome, nat_eq, nat_lt, refl, ap, sym, ◌∙◌, subst, arith, append_assoc, true≢false, is_some, le_trans, Vec, Global}
-use lib.Pointwise.{pointwise}
+use Rattle.std.proofs.Common.{◌≡◌, ℕ, suc, ◌+◌, ◌<◌, ◌≤◌, List, [], ◌∷◌, ◌++◌, filter, Bool, true, false, cond, Option, Some, None, IsSome, refl, ap, sym, ◌∙◌, subst, arith, append_assoc, true≢false, Vec, Global}
 use Rattle.std.specs.List.{AllByRecursion, IsDistinct}
 use Rattle.std.specs.Map.{keys_of, lookup, remove_entry, set_value}
 use Rattle.std.specs.BTreeMap.{is_at}
-use Rattle.std.specs.Ordering.{is_gt}
 use Rattle.std.proofs.lemmas.Slice.Eq.{bytes_eq-Decides}
 use Rattle.cache_rows.specs.declared.table.Cell.{Cell}
-use Rattle.cache_rows.specs.RowMachine.{PickleRow, NoneNamed, key_of, sizes, pickle_size, stays, current}
+use Rattle.cache_rows.specs.RowMachine.{NoneNamed, key_of, stays, current}
 use Rattle.cache_rows.specs.Indexed.{Entry, row_of, rows_of, place_of, placed, by_place, key_at, same_key, is_key, BirthsRise}
 use Rattle.cache_rows.proofs.Lists.{if_so, if_not, all-append, all-left, all-right, all-weaker}
-use Rattle.cache_rows.proofs.Places.{Place, place-same, place-self, place-other, place-first}
+use Rattle.cache_rows.proofs.Places.{Place, place-same, place-self, place-other}
 
 key-same : (key : List ℕ) (k : Vec ℕ Global) → is_key key k ≡ true → k.items ≡ key
 key-same key k h = sym ((bytes_eq-Decides key k.items).0 h)

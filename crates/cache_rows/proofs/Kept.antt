@@ -1,10 +1,10 @@
 -- The rows that are kept: those that leave first may be dropped one by one.
-use Rattle.std.proofs.Common.{◌≡◌, ℕ, suc, ◌+◌, ◌<◌, ◌≤◌, List, [], ◌∷◌, ◌++◌, filter, Bool, true, false, cond, nat_le, nat_lt, refl, ap, sym, ◌∙◌, arith}
+use Rattle.std.proofs.Common.{◌≡◌, ℕ, ◌+◌, ◌<◌, ◌≤◌, List, [], ◌∷◌, ◌++◌, filter, Bool, true, false, cond, nat_le, nat_lt, refl, ap, ◌∙◌, arith}
 use Rattle.std.proofs.lemmas.Bool.{lt-leb, le-leb, lt-ltb, le-ltb}
 use Rattle.std.specs.List.{AllByRecursion}
 use Rattle.cache_rows.specs.declared.row.Row.{Row}
 use Rattle.cache_rows.specs.RowMachine.{sizes, sizes_from, kept}
-use Rattle.cache_rows.proofs.Lists.{if_so, if_not, all-append, all-weaker, filter-all, filter-without}
+use Rattle.cache_rows.proofs.Lists.{if_so, if_not, all-weaker, filter-all, filter-without}
 
 module _ {K V : Type 0} (size : K → V → ℕ) where
   pub sizes-append : (xs ys : List (Row K V)) → sizes size (xs ++ ys) ≡ sizes size xs + sizes size ys

@@ -1,11 +1,10 @@
 -- What the plain list's loops do.
-use Rattle.std.proofs.Common.{◌-◌, ◌^◌, append_assoc, add-one, length-take, drop_of_length-le, ◌≡◌, ℕ, zero, suc, ◌+◌, ◌<◌, ◌≤◌, min, List, [], ◌∷◌, ◌++◌, length, take, drop, get_or, filter, Bool, true, false, cond, not, IsTrue, Option, Some, None, slice_get, slice_set, remove, refl, ap, sym, ◌∙◌, arith, subst, length-append, ◌⊎◌, inl, inr}
+use Rattle.std.proofs.Common.{◌-◌, ◌^◌, append_assoc, add-one, length-take, drop_of_length-le, ◌≡◌, ℕ, ◌+◌, ◌<◌, ◌≤◌, min, List, [], ◌∷◌, ◌++◌, length, take, drop, get_or, filter, Bool, true, false, cond, Option, Some, None, slice_get, slice_set, remove, refl, ap, sym, ◌∙◌, arith, subst}
 use Rattle.std.proofs.Math.Seq.{take-suc}
 use Rattle.std.proofs.Math.Nat.{min-eq_left}
 use Rattle.std.proofs.lemmas.Bool.{ltb-true, lt-ltb}
 use Rattle.std.specs.List.{AllByRecursion}
 use Rattle.sml_syntax.specs.declared.cache.Kind.{Kind}
-use Rattle.cache_rows.specs.declared.row.Row.{Row}
 use Rattle.cache_rows.specs.RowMachine.{PickleRow, NoneNamed, Finds, TakesOut, key_of, used, stays, current, sizes, pickle_size, kept}
 use Rattle.cache_rows.specs.Indexed.{FirstToLeave}
 use Rattle.cache_rows.proofs.Lists.{At, at-place, all-append, all-weaker, filter-all, filter-with, seam}

@@ -1,5 +1,5 @@
 -- Lists: what holds of each item, one item among the others, and filters.
-use Rattle.std.proofs.Common.{◌≡◌, ℕ, zero, suc, ◌+◌, ◌<◌, ◌≤◌, List, [], ◌∷◌, ◌++◌, length, take, drop, filter, Bool, true, false, cond, Option, Some, None, slice_get, refl, ap, sym, ◌∙◌, arith, true≢false}
+use Rattle.std.proofs.Common.{◌≡◌, ℕ, zero, suc, List, [], ◌∷◌, ◌++◌, length, take, drop, filter, Bool, true, false, cond, Some, slice_get, refl, ap, sym, ◌∙◌}
 use Rattle.std.specs.List.{AllByRecursion, slice_set}
 
 pub if_so : {A : Type 0} (t : Bool) (x y : A) → t ≡ true → cond t x y ≡ x

@@ -1,5 +1,5 @@
 -- What each call of a table leaves true of it, and what it makes of the rows.
-use Rattle.std.proofs.Common.{◌≡◌, ℕ, suc, ◌+◌, ◌-◌, ◌<◌, ◌≤◌, ◌^◌, ◌⊎◌, inl, inr, min, List, [], ◌∷◌, ◌++◌, map, length, filter, Bool, true, false, cond, Option, Some, None, IsSome, Result, Ok, Err, IsOk, OnOk, refl, ap, sym, ◌∙◌, subst, arith, append_assoc, append-nil, Vec, Global}
+use Rattle.std.proofs.Common.{◌≡◌, ℕ, ◌+◌, ◌-◌, ◌<◌, ◌≤◌, ◌^◌, ◌⊎◌, inl, inr, min, List, [], ◌∷◌, ◌++◌, length, filter, Bool, true, false, cond, Option, Some, None, IsSome, Result, Ok, Err, IsOk, OnOk, refl, ap, sym, ◌∙◌, subst, arith, append_assoc, append-nil, Vec, Global}
 use Rattle.std.specs.List.{AllByRecursion, IsDistinct}
 use Rattle.std.specs.Map.{keys_of, lookup, remove_entry, set_value}
 use Rattle.std.specs.BTreeMap.{is_at}
@@ -9,9 +9,9 @@ use Rattle.std.proofs.lemmas.Slice.Eq.{bytes_eq-Decides}
 use Rattle.indexmap.specs.IndexMap.{insert_entry}
 use Rattle.sml_syntax.specs.declared.cache.Kind.{Kind}
 use Rattle.cache_rows.specs.declared.table.Cell.{Cell}
-use Rattle.cache_rows.specs.RowMachine.{PickleRow, Named, NoneNamed, TakesOut, key_of, used, sizes, pickle_size, stays, current, new_row}
-use Rattle.cache_rows.specs.Indexed.{Indexed, Entry, row_of, rows_of, place_of, placed, by_place, key_at, same_key, is_key, BirthsRise, LeavesFirst, Touches, LeavesStamp, Replaces}
-use Rattle.cache_rows.proofs.Lists.{if_so, if_not, all-append, all-left, all-right, all-weaker, all-filter, filter-all, filter-without}
+use Rattle.cache_rows.specs.RowMachine.{PickleRow, NoneNamed, TakesOut, key_of, used, sizes, pickle_size, stays, current, new_row}
+use Rattle.cache_rows.specs.Indexed.{Indexed, Entry, row_of, rows_of, place_of, placed, by_place, key_at, same_key, is_key, BirthsRise, LeavesFirst, Touches, Replaces}
+use Rattle.cache_rows.proofs.Lists.{if_not, all-append, all-left, all-right, all-weaker, all-filter, filter-all, filter-without}
 use Rattle.cache_rows.proofs.Kept.{sizes-filter}
 use Rattle.cache_rows.proofs.Places.{Place, place-first}
 use Rattle.cache_rows.proofs.Indexing.{Apart, Out, Order, Orders, out, no-entry, apart, there, none-named, rise-push, rise-out, rise-set, rise-filter, away-out, away-new, some-at, orders-in, orders-out, at-first, all-between, entry_stays, place_stays, orders-filter, rows-filter, rows-append}

@@ -1,5 +1,5 @@
 -- Rows by their keys and by the order in which they leave: what maps with births mean, and what is true of them.
-use Rattle.std.specs.Prelude.{◌≡◌, ℕ, ◌≤◌, ◌<◌, List, [], ◌∷◌, ◌++◌, suc, map, length, Bool, true, false, Option, Some, None, nat_eq}
+use Rattle.std.specs.Prelude.{◌≡◌, ℕ, ◌≤◌, ◌<◌, List, [], ◌∷◌, ◌++◌, suc, map, length, Bool, true, Option, Some, None, nat_eq}
 use Rattle.std.specs.Ordering.{nat_cmp, ordering_then}
 use Rattle.std.specs.declared.cmp.Ordering.{Ordering}
 use Rattle.std.specs.Cmp.Lexicographic.{pointwise}
@@ -9,7 +9,6 @@ use Rattle.std.specs.BTreeMap.{is_at}
 use Rattle.std.specs.declared.alloc.Global.{Global}
 use Rattle.std.specs.declared.vec.Vec.{Vec}
 use Rattle.sml_syntax.specs.declared.cache.Kind.{Kind}
-use Rattle.cache_rows.specs.declared.row.Row.{Row}
 use Rattle.cache_rows.specs.declared.table.Cell.{Cell}
 use Rattle.cache_rows.specs.RowMachine.{PickleRow, Named, NoneNamed, key_of, used, stays, current, new_row, sizes, pickle_size}
 

@@ -15,4 +15,4 @@ pub use list_rows::ListRows;
 pub use row::{Row, RowAns, RowCall};
 pub use row_store::RowStore;
 pub use rows::Rows;
-pub use runs::run_rows;
+pub use runs::{moments_rise, run_rows};

@@ -1,5 +1,5 @@
 // A list of calls, one after another.
-ghost use Rattle.std.specs.Prelude.{◌≡◌, ◌≤◌, ℕ, List, length, take, IfOk, OnErr};
+ghost use Rattle.std.specs.Prelude.{◌≡◌, ◌≤◌, ◌↔◌, ℕ, List, take, IfOk, OnErr, IsTrue};
 ghost use Rattle.cache_rows.specs.RowMachine.{RowRun, RowStep, MomentsRise, moment_of};
 ghost use Rattle.cache_rows.specs.declared.row.RowAns.{RowAns as Answer};
 
@@ -38,5 +38,30 @@ fn run_call<R: RowStore>(rows: &mut R, call: &RowCall) -> Result<RowAns, NoMemor
             rows.flush();
             Ok(RowAns::Flushed)
         }
+    }
+}
+
+/// Whether the moments of the calls don't fall and none is below `last`.
+pub fn moments_rise(last: u64, calls: &[RowCall]) -> bool
+    ensures { IsTrue result ↔ MomentsRise last calls.now }
+{
+    let mut last = last;
+    for call in calls {
+        let now = moment_of(call);
+        if now < last {
+            return false;
+        }
+        last = now;
+    }
+    true
+}
+
+fn moment_of(call: &RowCall) -> u64
+    ensures { result ≡ moment_of call.now }
+{
+    match call {
+        RowCall::Look(now, _) => *now,
+        RowCall::Put(now, _, _) => *now,
+        RowCall::Flush(now) => *now,
     }
 }

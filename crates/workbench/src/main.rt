@@ -2,6 +2,7 @@
 //! printed is sure. With a name and a count, as `region_store 10000000`, that load is timed.
 #![tactic(auto)]
 
+mod cache_rows;
 mod region_store;
 
 use std::{env, io};
@@ -10,13 +11,15 @@ fn main(rt: HostRuntime) -> io::Result<()> {
     let mut words = env::args(&rt)?;
     let _ = words.next();
     let Some(name) = words.next() else {
-        return region_store::small(&rt);
+        region_store::small(&rt)?;
+        return cache_rows::small(&rt);
     };
     let count: u32 = match words.next() {
         Some(text) => text.parse().unwrap_or(0),
         None => 0,
     };
     match name.as_str() {
+        "cache_rows" => cache_rows::timed(&rt, count),
         "region_store" => region_store::timed(&rt, count),
         _ => println!(rt; "no such load: {name}"),
     }

@@ -1,4 +1,4 @@
-use Rattle.std.proofs.Common.{◌≡◌, ◌<◌, ◌≤◌, ap, sym, subst, ◌∙◌}
+use Rattle.std.proofs.Common.{◌<◌, ◌≤◌, ap, sym, subst, ◌∙◌}
 use Rattle.cache_rows.proofs.Listing.{first-then, first-else}
 use Rattle.cache_rows.proofs.list_rows.first_to_leave.Goals as goal
 use Rattle.cache_rows.proofs.list_rows.first_to_leave.Goals.{then-stamp-least, else-stamp-least}

@@ -1,4 +1,4 @@
-use Rattle.std.proofs.Common.{◌≡◌, ◌≤◌, ◌<◌, length, take}
+use Rattle.std.proofs.Common.{take}
 use Rattle.cache_rows.specs.Indexed.{FirstToLeave}
 use Rattle.cache_rows.proofs.list_rows.first_to_leave.Given as goal
 

@@ -1,5 +1,4 @@
 use Rattle.std.proofs.Common.{rules, refl, subst, slice_get, Some, ◌≡◌}
-use Rattle.cache_rows.specs.RowMachine.{NoneNamed, key_of, current}
 use Rattle.cache_rows.proofs.Listing.{taken, none-there}
 use Rattle.cache_rows.proofs.list_rows.take_out.Goals as goal
 

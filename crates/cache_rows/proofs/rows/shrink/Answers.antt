@@ -1,4 +1,4 @@
-use Rattle.std.proofs.Common.{◌∙◌, sym}
+use Rattle.std.proofs.Common.{◌∙◌}
 use Rattle.cache_rows.proofs.Settling.{drops-first, all-kept}
 use Rattle.cache_rows.proofs.rows.shrink.Goals as goal
 

@@ -1,4 +1,4 @@
-use Rattle.std.proofs.Common.{◌≡◌, ◌+◌, ◌∷◌, ◌++◌, sym, subst, [], take}
+use Rattle.std.proofs.Common.{◌+◌, ◌∷◌, ◌++◌, sym, subst, [], take}
 use Rattle.cache_rows.specs.RowMachine.{RowRun, Stays}
 use Rattle.cache_rows.proofs.Calling.{run-more, rise-more, on_err}
 use Rattle.cache_rows.proofs.runs.run_rows.Goals as goal

@@ -1,5 +1,5 @@
 use Rattle.std.proofs.Common.{take, drop}
-use Rattle.cache_rows.specs.RowMachine.{CacheRows, RowRun, MomentsRise}
+use Rattle.cache_rows.specs.RowMachine.{RowRun, MomentsRise}
 use Rattle.cache_rows.proofs.runs.run_rows.Given as goal
 
 -- the calls so far were made, and those to come rise from the last moment

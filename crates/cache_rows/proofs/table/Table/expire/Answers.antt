@@ -1,4 +1,4 @@
-use Rattle.std.proofs.Common.{◌≡◌, ap, sym, subst, ◌∙◌, rules, true≢false}
+use Rattle.std.proofs.Common.{ap, sym, ◌∙◌, rules, true≢false}
 use Rattle.indexmap.proofs.CallerLemmas.{filter-RetainsPairs}
 use Rattle.cache_rows.specs.RowMachine.{current}
 use Rattle.cache_rows.specs.Indexed.{rows_of}

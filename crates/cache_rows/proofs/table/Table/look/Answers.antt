@@ -1,6 +1,6 @@
-use Rattle.std.proofs.Common.{◌≡◌, ap, sym, subst, ◌∙◌, refl, inl, inr, true≢false, Some, ◌⊎◌, true, false, cond}
+use Rattle.std.proofs.Common.{◌≡◌, ap, sym, subst, ◌∙◌, refl, inl, inr, Some, ◌⊎◌, false, cond}
 use Rattle.std.specs.BTreeMap.{is_at}
-use Rattle.cache_rows.specs.RowMachine.{NoneNamed, key_of, current, stays}
+use Rattle.cache_rows.specs.RowMachine.{NoneNamed, key_of, current}
 use Rattle.cache_rows.specs.Indexed.{Touches, Restamps, rows_of, by_place, key_at}
 use Rattle.cache_rows.proofs.Tabling.{none-stays, none-current, touched-not, touched-rows, touched-indexed}
 use Rattle.cache_rows.proofs.table.Table.look.Goals as goal

@@ -1,4 +1,4 @@
-use Rattle.std.proofs.Common.{◌≡◌, ap, sym, subst, ◌∙◌, ◌-◌}
+use Rattle.std.proofs.Common.{ap, sym, subst, ◌∙◌, ◌-◌}
 use Rattle.cache_rows.specs.RowMachine.{NoneNamed, TakesOut, key_of, pickle_size}
 use Rattle.cache_rows.specs.Indexed.{rows_of}
 use Rattle.cache_rows.proofs.Tabling.{none-out, out-indexed, out-rows}
