@@ -20,17 +20,18 @@ const TIMES_OUT_UNUSED: [Step; 4] = [
     (128, "look", "a", "", "none"),
 ];
 
+// Keys and values are the pickles of texts.
 const PUSHES_OUT: [Step; 10] = [
-    (0, "put", "a", "xyz", "true"),
-    (0, "put", "b", "xyz", "true"),
-    (0, "look", "a", "", "none"),
-    (0, "look", "b", "", "xyz"),
-    (0, "put", "c", "wxyz", "true"),
-    (0, "look", "c", "", "none"),
-    (0, "look", "b", "", "xyz"),
-    (0, "put", "b", "wxyz", "false"),
-    (0, "look", "b", "", "none"),
-    (0, "put", "a", "xyz", "true"),
+    (0, "put", "\x01a", "\x03xyz", "true"),
+    (0, "put", "\x01b", "\x03xyz", "true"),
+    (0, "look", "\x01a", "", "none"),
+    (0, "look", "\x01b", "", "\x03xyz"),
+    (0, "put", "\x01c", "\x04wxyz", "true"),
+    (0, "look", "\x01c", "", "none"),
+    (0, "look", "\x01b", "", "\x03xyz"),
+    (0, "put", "\x01b", "\x04wxyz", "false"),
+    (0, "look", "\x01b", "", "none"),
+    (0, "put", "\x01a", "\x03xyz", "true"),
 ];
 
 // No time at all: a row is gone at the next call.
@@ -117,7 +118,12 @@ fn keeps_rows(rt: HostRuntime) {
 
 #[test]
 fn answers_alike(rt: HostRuntime) {
-    for (time, size) in [(None, None), (Some(9), None), (None, Some(40)), (Some(25), Some(60))] {
+    for (time, size) in [
+        (None, None),
+        (Some(9), None),
+        (None, Some(40)),
+        (Some(25), Some(60)),
+    ] {
         for used in [false, true] {
             answers_alike_by(&rt, Kind { used, time, size });
         }
@@ -137,7 +143,11 @@ fn keep_to<R: RowStore>(rt: &(impl Abort + AllocGlobal), rows: &mut R, steps: &[
         assert!(rt; rows.last() <= *now);
         if *call == "look" {
             let found = rows.look(*now, &key).expect(rt, "memory");
-            let wanted = if *answer == "none" { None } else { Some(text(rt, answer)) };
+            let wanted = if *answer == "none" {
+                None
+            } else {
+                Some(text(rt, answer))
+            };
             assert!(rt; found == wanted, "{now} {answer}");
         } else if *call == "put" {
             let fresh = rows.put(*now, &key, &text(rt, value)).expect(rt, "memory");
@@ -154,7 +164,9 @@ fn answers_alike_by(rt: &(impl Abort + AllocGlobal), kind: Kind) {
     let mut seed: u64 = 1;
     let mut now: u64 = 0;
     for _ in 0..2000 {
-        seed = seed.wrapping_mul(6364136223846793005).wrapping_add(1442695040888963407);
+        seed = seed
+            .wrapping_mul(6364136223846793005)
+            .wrapping_add(1442695040888963407);
         now = now.saturating_add((seed >> 60) % 3);
         let key = &b"abcdefghijklmnop"[(seed >> 40) as usize % 12..12 + (seed >> 36) as usize % 5];
         let key = Text::from_bytes(rt.alloc(), key).expect(rt, "memory");

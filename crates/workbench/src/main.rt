@@ -2,8 +2,8 @@
 //! printed is sure. With a name and a count, as `region_store 10000000`, that load is timed.
 #![tactic(auto)]
 
-mod cache_rows;
 mod region_store;
+mod row_times;
 
 use std::{env, io};
 
@@ -12,14 +12,14 @@ fn main(rt: HostRuntime) -> io::Result<()> {
     let _ = words.next();
     let Some(name) = words.next() else {
         region_store::small(&rt)?;
-        return cache_rows::small(&rt);
+        return row_times::small(&rt);
     };
     let count: u32 = match words.next() {
         Some(text) => text.parse().unwrap_or(0),
         None => 0,
     };
     match name.as_str() {
-        "cache_rows" => cache_rows::timed(&rt, count),
+        "cache_rows" => row_times::timed(&rt, count),
         "region_store" => region_store::timed(&rt, count),
         _ => println!(rt; "no such load: {name}"),
     }
