@@ -1,0 +1,2 @@
+pub mod RowMachine
+pub mod Indexed
