@@ -29,16 +29,25 @@ after_then requests requests' rest Closing stays a = closes_then requests reques
 cut_then : {S : Type 0} (step : S → Request → Reply → S → Type 0) (old mid : S) (link link' link'' : LinkState) (rest : List ℕ) (requests : List Request) (replies : List Reply) (requests' : List Request) (replies' : List Reply)
     → Chain step old requests replies mid → last_closes requests ≡ false → AreWritten requests replies link link' → IsCut requests' replies' rest link' link'' → IsCut (requests ++ requests') (replies ++ replies') rest link link''
 cut_then step old mid link link' link'' rest requests replies requests' replies' chain stays written (inl (earlier, said, request, reply, cut)) =
-    inl (requests ++ earlier, replies ++ said, request, reply, record {
-      requests_are = ap (λ x. requests ++ x) cut.requests_are ∙ sym (append_assoc requests earlier (request ∷ []));
-      replies_are = ap (λ x. replies ++ x) cut.replies_are ∙ sym (append_assoc replies said (reply ∷ []));
-      written = subst (λ (w : Option (List ℕ)). GrewByFront w (bytes_of reply request.closing) link''.written) (written_then step old mid link link' link'' requests replies earlier said chain written) cut.written;
-    })
+    inl (
+      requests ++ earlier,
+      replies ++ said,
+      request,
+      reply,
+      record {
+        requests_are = ap (λ x. requests ++ x) cut.requests_are ∙ sym (append_assoc requests earlier (request ∷ []));
+        replies_are = ap (λ x. replies ++ x) cut.replies_are ∙ sym (append_assoc replies said (reply ∷ []));
+        written = subst (λ (w : Option (List ℕ)). GrewByFront w (bytes_of reply request.closing) link''.written) (written_then step old mid link link' link'' requests replies earlier said chain written) cut.written;
+      },
+    )
 cut_then step old mid link link' link'' rest requests replies requests' replies' chain stays written (inr (status, cut)) =
-    inr (status, record {
-      after = after_then requests requests' rest (Bad status) stays cut.after;
-      written = subst (λ (w : Option (List ℕ)). GrewByFront w (fault_bytes status) link''.written) (written_then step old mid link link' link'' requests replies requests' replies' chain written) cut.written;
-    })
+    inr (
+      status,
+      record {
+        after = after_then requests requests' rest (Bad status) stays cut.after;
+        written = subst (λ (w : Option (List ℕ)). GrewByFront w (fault_bytes status) link''.written) (written_then step old mid link link' link'' requests replies requests' replies' chain written) cut.written;
+      },
+    )
 
 -- earlier replies before the end
 ends_then : {S : Type 0} (step : S → Request → Reply → S → Type 0) (old mid : S) (link link' link'' : LinkState) (bytes held rest : List ℕ) (requests : List Request) (replies : List Reply) (requests' : List Request) (replies' : List Reply) (end : Ended)
@@ -50,9 +59,9 @@ ends_then step old mid link link' link'' bytes held rest requests replies reques
 ends_then step old mid link link' link'' bytes held rest requests replies requests' replies' (ended.BadInput status) goes (after, written) = (
   after_then requests requests' rest (Bad status) goes.goes_on after,
   written
-  ∙ sym (grown_twice link'.written (replies_bytes requests' replies') (fault_bytes status))
-  ∙ ap (λ w. grown w (fault_bytes status)) (written_then step old mid link link' link'' requests replies requests' replies' goes.chain goes.written)
-  ∙ grown_twice link.written (replies_bytes (requests ++ requests') (replies ++ replies')) (fault_bytes status),
+      ∙ sym (grown_twice link'.written (replies_bytes requests' replies') (fault_bytes status))
+      ∙ ap (λ w. grown w (fault_bytes status)) (written_then step old mid link link' link'' requests replies requests' replies' goes.chain goes.written)
+      ∙ grown_twice link.written (replies_bytes (requests ++ requests') (replies ++ replies')) (fault_bytes status),
 )
 ends_then step old mid link link' link'' bytes held rest requests replies requests' replies' (ended.Truncated n) goes (after, some, used, written) =
     (after_then requests requests' rest (Open n) goes.goes_on after, some, used, written ∙ written_then step old mid link link' link'' requests replies requests' replies' goes.chain goes.written)

@@ -11,4 +11,5 @@ mod copies;
 mod lex_table;
 #[cfg(test)]
 mod parse_table;
+#[cfg(test)]
 mod type_table;

@@ -112,7 +112,11 @@ fn copies_have_new_variables(rt: HostRuntime) -> Result<(), Fail> {
     let Some(right) = types.part(copy, 1) else {
         return Err("no part")?;
     };
-    assert!(rt; types.name(left).is_none() && types.asked(left).equality && types.find(left) != types.find(a));
+    assert!(rt;
+        types.name(left).is_none()
+            && types.asked(left).equality
+            && types.find(left) != types.find(a)
+    );
     let first = types.part(right, 0).map(|part| types.find(part));
     assert!(rt; first == Some(types.find(left)));
     assert!(rt; types.part(right, 1).map(|part| types.find(part)) == Some(types.find(old)));
@@ -123,7 +127,9 @@ fn copies_have_new_variables(rt: HostRuntime) -> Result<(), Fail> {
         return Err("no part")?;
     };
     let new = types.con(fresh, &[])?;
-    assert!(rt; types.unify(place, new).is_ok() && types.name(left).is_none() && types.name(a).is_none());
+    assert!(rt;
+        types.unify(place, new).is_ok() && types.name(left).is_none() && types.name(a).is_none()
+    );
     // nothing in it is that young
     let same = types.copy(old, mark)?;
     assert!(rt; same == types.find(old));

@@ -22,5 +22,4 @@ pub fn numbers_are_shortest()
     ensures value { (n : ℕ) → n < 2 ^ 64 → leb128_value (number_pickle n) ≡ n }
     ensures shortest { (n : ℕ) (bytes : List ℕ) → n < 2 ^ 64 → 0 < length bytes → leb128_value bytes ≡ n → length (number_pickle n) ≤ length bytes }
     ensures at_most { (n : ℕ) → length (number_pickle n) ≤ 10 }
-{
-}
+{}

@@ -14,9 +14,7 @@ mod writing;
 
 pub use answers::answer_fits;
 pub use fitting::fits;
-pub use laws::{
-    equal_pickles_are_of_equal_data, no_pickle_begins_another, numbers_are_shortest,
-};
+pub use laws::{equal_pickles_are_of_equal_data, no_pickle_begins_another, numbers_are_shortest};
 pub use reading::read;
 pub use refusal::PickleRefusal;
 pub use writing::write;
