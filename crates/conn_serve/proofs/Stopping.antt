@@ -1,18 +1,18 @@
 -- A connection that ends.
-use Rattle.std.proofs.Common.{◌≡◌, ℕ, ◌+◌, ◌-◌, ◌^◌, min, ◌≤◌, ◌<◌, ◌⊎◌, inl, inr, Bool, true, false, List, [], ◌∷◌, ◌++◌, length, take, drop, Option, refl, sym, ap, ◌∙◌, subst, arith, append_assoc}
+use Rattle.std.proofs.Common.{◌≡◌, ℕ, ◌≤◌, inl, inr, false, List, [], ◌∷◌, ◌++◌, length, drop, Option, refl, sym, ap, ◌∙◌, subst, arith, append_assoc}
 use Rattle.std.proofs.lemmas.List.{append-nil}
-use Rattle.outside_world.specs.Told.{Rose, grown, GrewByFront, IsUsedUp}
+use Rattle.outside_world.specs.Told.{Rose, grown, GrewByFront}
 use Rattle.outside_world.specs.Answering.{Chain}
 use Rattle.sml_syntax.specs.declared.request.Request.{Request}
 use Rattle.sml_syntax.specs.declared.request.Reply.{Reply}
 use Rattle.http_reply.specs.ReplyBytes.{bytes_of, fault_bytes}
-use Rattle.http_read.specs.Messages.{HasFront, Held, Fault, Message, After, Open, Bad, Closing, IsAfter, last_closes}
+use Rattle.http_read.specs.Messages.{HasFront, Fault, Message, After, Open, Bad, Closing, IsAfter, last_closes}
 use Rattle.http_read.proofs.Begins.{begins_more}
 use Rattle.conn_serve.specs.declared.Ended.{Ended}
 use Rattle.conn_serve.specs.declared.Ended.TheVariants as ended
-use Rattle.conn_serve.specs.Serving.{LinkState, AreWritten, Ends, IsCut, IsReplyCut, IsFaultCut, replies_bytes}
-use Rattle.conn_serve.specs.Steps.{Goes, Stops, ReplyEnds, FaultEnds, Takes}
-use Rattle.conn_serve.proofs.Chains.{chain_more, bytes_more, grown_twice, grown_none}
+use Rattle.conn_serve.specs.Serving.{LinkState, AreWritten, Ends, IsCut, replies_bytes}
+use Rattle.conn_serve.specs.Steps.{Goes, Stops, ReplyEnds, FaultEnds}
+use Rattle.conn_serve.proofs.Chains.{chain_more, grown_twice, grown_none}
 use Rattle.conn_serve.proofs.Going.{closes_then, written_then}
 
 -- a count that rose since later rose
@@ -29,16 +29,25 @@ after_then requests requests' rest Closing stays a = closes_then requests reques
 cut_then : {S : Type 0} (step : S → Request → Reply → S → Type 0) (old mid : S) (link link' link'' : LinkState) (rest : List ℕ) (requests : List Request) (replies : List Reply) (requests' : List Request) (replies' : List Reply)
     → Chain step old requests replies mid → last_closes requests ≡ false → AreWritten requests replies link link' → IsCut requests' replies' rest link' link'' → IsCut (requests ++ requests') (replies ++ replies') rest link link''
 cut_then step old mid link link' link'' rest requests replies requests' replies' chain stays written (inl (earlier, said, request, reply, cut)) =
-    inl (requests ++ earlier, replies ++ said, request, reply, record {
-      requests_are = ap (λ x. requests ++ x) cut.requests_are ∙ sym (append_assoc requests earlier (request ∷ []));
-      replies_are = ap (λ x. replies ++ x) cut.replies_are ∙ sym (append_assoc replies said (reply ∷ []));
-      written = subst (λ (w : Option (List ℕ)). GrewByFront w (bytes_of reply request.closing) link''.written) (written_then step old mid link link' link'' requests replies earlier said chain written) cut.written;
-    })
+    inl (
+      requests ++ earlier,
+      replies ++ said,
+      request,
+      reply,
+      record {
+        requests_are = ap (λ x. requests ++ x) cut.requests_are ∙ sym (append_assoc requests earlier (request ∷ []));
+        replies_are = ap (λ x. replies ++ x) cut.replies_are ∙ sym (append_assoc replies said (reply ∷ []));
+        written = subst (λ (w : Option (List ℕ)). GrewByFront w (bytes_of reply request.closing) link''.written) (written_then step old mid link link' link'' requests replies earlier said chain written) cut.written;
+      },
+    )
 cut_then step old mid link link' link'' rest requests replies requests' replies' chain stays written (inr (status, cut)) =
-    inr (status, record {
-      after = after_then requests requests' rest (Bad status) stays cut.after;
-      written = subst (λ (w : Option (List ℕ)). GrewByFront w (fault_bytes status) link''.written) (written_then step old mid link link' link'' requests replies requests' replies' chain written) cut.written;
-    })
+    inr (
+      status,
+      record {
+        after = after_then requests requests' rest (Bad status) stays cut.after;
+        written = subst (λ (w : Option (List ℕ)). GrewByFront w (fault_bytes status) link''.written) (written_then step old mid link link' link'' requests replies requests' replies' chain written) cut.written;
+      },
+    )
 
 -- earlier replies before the end
 ends_then : {S : Type 0} (step : S → Request → Reply → S → Type 0) (old mid : S) (link link' link'' : LinkState) (bytes held rest : List ℕ) (requests : List Request) (replies : List Reply) (requests' : List Request) (replies' : List Reply) (end : Ended)
@@ -50,9 +59,9 @@ ends_then step old mid link link' link'' bytes held rest requests replies reques
 ends_then step old mid link link' link'' bytes held rest requests replies requests' replies' (ended.BadInput status) goes (after, written) = (
   after_then requests requests' rest (Bad status) goes.goes_on after,
   written
-  ∙ sym (grown_twice link'.written (replies_bytes requests' replies') (fault_bytes status))
-  ∙ ap (λ w. grown w (fault_bytes status)) (written_then step old mid link link' link'' requests replies requests' replies' goes.chain goes.written)
-  ∙ grown_twice link.written (replies_bytes (requests ++ requests') (replies ++ replies')) (fault_bytes status),
+      ∙ sym (grown_twice link'.written (replies_bytes requests' replies') (fault_bytes status))
+      ∙ ap (λ w. grown w (fault_bytes status)) (written_then step old mid link link' link'' requests replies requests' replies' goes.chain goes.written)
+      ∙ grown_twice link.written (replies_bytes (requests ++ requests') (replies ++ replies')) (fault_bytes status),
 )
 ends_then step old mid link link' link'' bytes held rest requests replies requests' replies' (ended.Truncated n) goes (after, some, used, written) =
     (after_then requests requests' rest (Open n) goes.goes_on after, some, used, written ∙ written_then step old mid link link' link'' requests replies requests' replies' goes.chain goes.written)
