@@ -1,9 +1,8 @@
 -- What the reader answers, and what comes of it.
-use Rattle.std.proofs.Common.{◌≡◌, ℕ, ◌+◌, ◌<◌, ◌≤◌, false, List, [], ◌∷◌, ◌++◌, length, drop, None, Result, Ok, Err, IfErr, refl, sym, ap, ◌∙◌, subst, arith, length-drop}
+use Rattle.std.proofs.Common.{◌≡◌, ℕ, ◌+◌, ◌<◌, ◌≤◌, false, List, [], ◌∷◌, ◌++◌, length, drop, None, Result, Ok, Err, IfErr, sym, ap, ◌∙◌, subst, arith, length-drop}
 use Rattle.sml_syntax.specs.declared.request.Request.{Request}
 use Rattle.sml_syntax.specs.declared.request.Reply.{Reply}
-use Rattle.sml_syntax.specs.declared.text.NoMemory.{NoMemory}
-use Rattle.http_reply.specs.ReplyBytes.{bytes_of, IsFaultStatus}
+use Rattle.http_reply.specs.ReplyBytes.{IsFaultStatus}
 use Rattle.http_read.specs.declared.reader.Next.{Next}
 use Rattle.http_read.specs.declared.reader.Next.TheVariants as next
 use Rattle.http_read.specs.Messages.{HasFront, Fault, Message}

@@ -16,10 +16,6 @@ chain_more {S} step old mid new [] (r ∷ replies) requests' replies' b c = absu
 chain_more {S} step old mid new (q ∷ requests) [] requests' replies' b c = absurd b
 chain_more {S} step old mid new (q ∷ requests) (r ∷ replies) requests' replies' (m, first, b) c = (m, first, chain_more step m mid new requests replies requests' replies' b c)
 
--- one answer
-pub chain_one : {S : Type 0} (step : S → Request → Reply → S → Type 0) (old new : S) (request : Request) (reply : Reply) → step old request reply new → Chain step old (request ∷ []) (reply ∷ []) new
-chain_one step old new request reply s = (new, s, refl)
-
 -- the bytes of more replies stand behind those of the first ones
 pub bytes_more : {S : Type 0} (step : S → Request → Reply → S → Type 0) (old mid : S) (requests : List Request) (replies : List Reply) (requests' : List Request) (replies' : List Reply)
     → Chain step old requests replies mid → replies_bytes (requests ++ requests') (replies ++ replies') ≡ replies_bytes requests replies ++ replies_bytes requests' replies'

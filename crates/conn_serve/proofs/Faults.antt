@@ -1,10 +1,10 @@
 -- The statuses of bytes that are no message.
-use Rattle.std.proofs.Common.{◌≡◌, ℕ, zero, suc, ◌+◌, ◌≤◌, ◌<◌, ◌⊎◌, inl, inr, Bool, true, false, List, length, refl, sym, ap, ◌∙◌, subst, arith}
-use Rattle.std.specs.Prelude.{nat_le, ◌&&◌, if◌then◌else◌, not, nat_lt, ◌==◌, codes}
+use Rattle.std.proofs.Common.{◌≡◌, ℕ, zero, suc, ◌≤◌, ◌<◌, inl, inr, Bool, true, false, List, length, refl, sym, subst, arith}
+use Rattle.std.specs.Prelude.{◌&&◌, if◌then◌else◌, not, nat_lt, ◌==◌, codes}
 use Rattle.sml_syntax.specs.declared.request.Request.{Request}
 use Rattle.http_reply.specs.ReplyBytes.{IsFaultStatus}
 use Rattle.http_read.specs.Head.{Judgement, Refuses, Takes, Field, provided, judge_length, judge_fields, is_known_method, is_known_target, are_lengths, body_length, most_body, has_field, count_fields, length_values, fields_of}
-use Rattle.http_read.specs.Messages.{Message, Fault, HasFront, HasHead, ends_at}
+use Rattle.http_read.specs.Messages.{Message, Fault, HasFront, ends_at}
 
 -- a refusal has one status
 same_status : (a b : ℕ) → Refuses a ≡ Refuses b → a ≡ b

@@ -1,18 +1,18 @@
 -- What a piece comes to.
-use Rattle.std.proofs.Common.{◌≡◌, ℕ, ◌+◌, ◌-◌, min, ◌<◌, ◌≤◌, false, List, [], ◌∷◌, ◌++◌, length, take, drop, refl, sym, ap, ◌∙◌, subst, arith}
+use Rattle.std.proofs.Common.{◌≡◌, ℕ, ◌≤◌, List, [], ◌++◌, length, take, refl, sym, ap, ◌∙◌, subst, arith}
 use Rattle.std.proofs.lemmas.Grind.{common_steps}
 use Rattle.std.proofs.lemmas.List.{append-nil}
-use Rattle.outside_world.specs.Told.{Rose, IsUsedUp, led, grown}
+use Rattle.outside_world.specs.Told.{Rose, IsUsedUp, led}
 use Rattle.sml_syntax.specs.declared.request.Request.{Request}
 use Rattle.sml_syntax.specs.declared.request.Reply.{Reply}
 use Rattle.http_read.specs.Messages.{HasFront, Held, IsAfter, Open}
 use Rattle.http_read.specs.Reader.{ReaderState}
 use Rattle.conn_serve.specs.declared.Ended.{Ended}
 use Rattle.conn_serve.specs.declared.Ended.TheVariants as ended
-use Rattle.conn_serve.specs.Serving.{LinkState, Ends}
-use Rattle.conn_serve.specs.Steps.{Goes, GoesOn, EndsOn, Gives, InputEnds, IsOfAnswers, IsOfPiece, PieceEnds, PieceGoesOn}
+use Rattle.conn_serve.specs.Serving.{LinkState}
+use Rattle.conn_serve.specs.Steps.{EndsOn, Gives, InputEnds, IsOfAnswers, IsOfPiece, PieceEnds}
 use Rattle.conn_serve.proofs.Chains.{grown_none}
-use Rattle.conn_serve.proofs.Going.{goes_nothing, goes_then}
+use Rattle.conn_serve.proofs.Going.{goes_nothing}
 use Rattle.conn_serve.proofs.Stopping.{stops_here, stops_then, no_memory_here}
 
 -- a front of a piece is no longer than it

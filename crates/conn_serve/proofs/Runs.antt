@@ -1,15 +1,15 @@
 -- A whole connection, piece after piece.
-use Rattle.std.proofs.Common.{◌≡◌, ℕ, zero, suc, ◌+◌, ◌-◌, ◌^◌, min, ◌<◌, ◌≤◌, inl, Bool, true, false, List, [], ◌∷◌, ◌++◌, length, take, drop, Option, Some, None, refl, sym, ap, ◌∙◌, subst, arith, append_assoc, length-append}
+use Rattle.std.proofs.Common.{◌≡◌, ℕ, zero, suc, ◌+◌, ◌-◌, min, ◌<◌, ◌≤◌, inl, true, false, List, [], ◌++◌, length, take, drop, Option, Some, None, refl, sym, ap, ◌∙◌, subst, arith, append_assoc, length-append}
 use Rattle.std.proofs.lemmas.Grind.{common_steps}
 use Rattle.outside_world.specs.Told.{grown, led}
 use Rattle.sml_syntax.specs.declared.request.Request.{Request}
 use Rattle.sml_syntax.specs.declared.request.Reply.{Reply}
-use Rattle.http_read.specs.Messages.{HasFront, HasHead, Held, ends_at}
+use Rattle.http_read.specs.Messages.{HasFront, Held, ends_at}
 use Rattle.http_read.specs.Reader.{ReaderState}
 use Rattle.conn_serve.specs.declared.Ended.{Ended}
 use Rattle.conn_serve.specs.declared.Ended.TheVariants as ended
 use Rattle.conn_serve.specs.Serving.{LinkState, EndsAfter, IsServed, most_bytes}
-use Rattle.conn_serve.specs.Steps.{Goes, Gives, GoesOn, IsOfPiece, PieceEnds, PieceGoesOn, Stops}
+use Rattle.conn_serve.specs.Steps.{Goes, Gives, IsOfPiece, PieceEnds, PieceGoesOn}
 use Rattle.conn_serve.proofs.Chains.{grown_none, grown_twice}
 use Rattle.conn_serve.proofs.Going.{goes_nothing, goes_append, goes_then}
 use Rattle.conn_serve.proofs.Stopping.{stops_then, no_memory_here}

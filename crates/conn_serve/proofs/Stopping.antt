@@ -1,18 +1,18 @@
 -- A connection that ends.
-use Rattle.std.proofs.Common.{◌≡◌, ℕ, ◌+◌, ◌-◌, ◌^◌, min, ◌≤◌, ◌<◌, ◌⊎◌, inl, inr, Bool, true, false, List, [], ◌∷◌, ◌++◌, length, take, drop, Option, refl, sym, ap, ◌∙◌, subst, arith, append_assoc}
+use Rattle.std.proofs.Common.{◌≡◌, ℕ, ◌≤◌, inl, inr, false, List, [], ◌∷◌, ◌++◌, length, drop, Option, refl, sym, ap, ◌∙◌, subst, arith, append_assoc}
 use Rattle.std.proofs.lemmas.List.{append-nil}
-use Rattle.outside_world.specs.Told.{Rose, grown, GrewByFront, IsUsedUp}
+use Rattle.outside_world.specs.Told.{Rose, grown, GrewByFront}
 use Rattle.outside_world.specs.Answering.{Chain}
 use Rattle.sml_syntax.specs.declared.request.Request.{Request}
 use Rattle.sml_syntax.specs.declared.request.Reply.{Reply}
 use Rattle.http_reply.specs.ReplyBytes.{bytes_of, fault_bytes}
-use Rattle.http_read.specs.Messages.{HasFront, Held, Fault, Message, After, Open, Bad, Closing, IsAfter, last_closes}
+use Rattle.http_read.specs.Messages.{HasFront, Fault, Message, After, Open, Bad, Closing, IsAfter, last_closes}
 use Rattle.http_read.proofs.Begins.{begins_more}
 use Rattle.conn_serve.specs.declared.Ended.{Ended}
 use Rattle.conn_serve.specs.declared.Ended.TheVariants as ended
-use Rattle.conn_serve.specs.Serving.{LinkState, AreWritten, Ends, IsCut, IsReplyCut, IsFaultCut, replies_bytes}
-use Rattle.conn_serve.specs.Steps.{Goes, Stops, ReplyEnds, FaultEnds, Takes}
-use Rattle.conn_serve.proofs.Chains.{chain_more, bytes_more, grown_twice, grown_none}
+use Rattle.conn_serve.specs.Serving.{LinkState, AreWritten, Ends, IsCut, replies_bytes}
+use Rattle.conn_serve.specs.Steps.{Goes, Stops, ReplyEnds, FaultEnds}
+use Rattle.conn_serve.proofs.Chains.{chain_more, grown_twice, grown_none}
 use Rattle.conn_serve.proofs.Going.{closes_then, written_then}
 
 -- a count that rose since later rose

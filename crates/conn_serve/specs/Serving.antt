@@ -1,6 +1,6 @@
 -- One connection: its messages are answered in order. RFC 9112, sections 9.3 (persistence), 9.3.2 (pipelining) and 9.6
 -- (tear-down).
-use Rattle.std.specs.Prelude.{◌≡◌, ℕ, ◌<◌, ◌≤◌, ◌^◌, ◌⊎◌, Bool, List, [], ◌∷◌, ◌++◌, length, Option}
+use Rattle.std.specs.Prelude.{◌≡◌, ℕ, ◌<◌, ◌≤◌, ◌^◌, ◌⊎◌, List, [], ◌∷◌, ◌++◌, length, Option}
 use Rattle.outside_world.specs.Told.{Rose, grown, led, IsUsedUp, GrewByFront}
 use Rattle.outside_world.specs.Answering.{Chain}
 use Rattle.sml_syntax.specs.declared.request.Request.{Request}

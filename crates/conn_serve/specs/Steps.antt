@@ -1,5 +1,5 @@
 -- What the parts of serving a connection do: a reply, the messages at hand, a piece.
-use Rattle.std.specs.Prelude.{◌≡◌, ℕ, ◌<◌, ◌≤◌, ◌⊎◌, Bool, true, false, List, [], ◌∷◌, ◌++◌, length}
+use Rattle.std.specs.Prelude.{◌≡◌, ℕ, ◌<◌, ◌≤◌, Bool, true, false, List, [], ◌++◌, length}
 use Rattle.outside_world.specs.Told.{Rose, grown, led, GrewByFront}
 use Rattle.outside_world.specs.Answering.{Chain}
 use Rattle.sml_syntax.specs.declared.request.Request.{Request}

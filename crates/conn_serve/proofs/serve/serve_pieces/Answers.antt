@@ -1,4 +1,4 @@
-use Rattle.std.proofs.Common.{◌≡◌, ◌≤◌, ◌+◌, ℕ, refl, ◌∙◌, arith}
+use Rattle.std.proofs.Common.{refl, ◌∙◌, arith}
 use Rattle.conn_serve.proofs.Runs.{start_with, nothing_served, one_more_piece, last_piece, piece_fits, piece_stays}
 use Rattle.conn_serve.proofs.serve.serve_pieces.Goals as goal
 
