@@ -74,8 +74,9 @@ fn command(alloc: Global, words: &[&str]) -> Result<DbCmd, Fail> {
         (["all", _], _, _, Some(table)) => Ok(DbCmd::All(table)),
         (["one", _, _], _, Some(table), Some(key)) => Ok(DbCmd::One(table, key)),
         (["delete", _, _], _, Some(table), Some(key)) => Ok(DbCmd::Delete(table, key)),
-        (["insert", ..], Some(table), Some(key), Some(value)) =>
-            Ok(DbCmd::Insert(table, key, value)),
+        (["insert", ..], Some(table), Some(key), Some(value)) => Ok(DbCmd::Insert(
+            table, key, value,
+        )),
         _ => Err("no command")?,
     }
 }
@@ -118,7 +119,10 @@ fn answers<K: Keeper>(
     calls: &[(&[&str], &str)],
 ) -> Result<(), Fail> {
     for (words, want) in calls {
-        assert_eq!(rt; answer(rt.alloc(), keeper, words)?.as_slice(), want.as_bytes());
+        assert_eq!(rt;
+            answer(rt.alloc(), keeper, words)?.as_slice(),
+            want.as_bytes()
+        );
     }
     Ok(())
 }
@@ -147,7 +151,11 @@ fn keeps_tables_in_a_file(rt: HostRuntime) -> Result<(), Fail> {
     let mut keeper = SqliteKeeper::adopt(alloc, open(&rt, file.as_str())?)?;
     answers(&rt, &mut keeper, &AGAIN)?;
     let mut absent = SqliteKeeper::adopt(alloc, None)?;
-    answers(&rt, &mut absent, &[(&["all", "book"], "Failed"), (&["create", "t"], "Failed")])?;
+    answers(
+        &rt,
+        &mut absent,
+        &[(&["all", "book"], "Failed"), (&["create", "t"], "Failed")],
+    )?;
     assert_eq!(rt; absent.faults(), 2);
     Ok(())
 }
