@@ -1,6 +1,5 @@
 -- What the definitions say of each form of a description and of a datum.
-use Rattle.std.proofs.Common.{◌≡◌, ℕ, ℤ, List, ◌∷◌, [], ◌++◌, length, Bool, true, false, Option, Some, None, refl, sym, ap, ◌∙◌}
-use Rattle.std.specs.Prelude.{◌&&◌, nat_lt}
+use Rattle.std.proofs.Common.{◌≡◌, ℕ, List, Bool, sym, ap, ◌∙◌}
 use Rattle.sml_syntax.specs.declared.datum.Datum.{Datum, out-Datum}
 use Rattle.sml_syntax.specs.declared.datum.Datum.TheViews.{roll-Datum, out-roll-Datum}
 use Rattle.sml_syntax.specs.declared.datum.Datum.TheOpen.{Datum-F}

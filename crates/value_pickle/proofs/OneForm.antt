@@ -1,6 +1,6 @@
 -- One pickle for each datum, and one datum for each pickle: where two pickles of one description begin two lists that are
 -- equal, the data are equal, and what follows the pickles too.
-use Rattle.std.proofs.Common.{◌≡◌, ℕ, ◌≤◌, List, [], ◌∷◌, ◌++◌, length, Bool, true, false, Some, None, refl, sym, ap, subst, ◌∙◌, inl, inr, append_assoc, arith}
+use Rattle.std.proofs.Common.{◌≡◌, ℕ, List, [], ◌∷◌, ◌++◌, length, Bool, true, false, Some, None, refl, sym, ap, subst, ◌∙◌, append_assoc}
 use Rattle.std.specs.Prelude.{◌&&◌}
 use Rattle.std.specs.List.{list_all}
 use Rattle.std.proofs.lemmas.Bool.{and_parts}
@@ -13,7 +13,7 @@ use Rattle.sml_syntax.specs.declared.datum.Desc.{Desc, map-Desc}
 use Rattle.sml_syntax.specs.declared.datum.Desc.TheOpen.{Desc-F}
 use Rattle.sml_syntax.specs.declared.datum.Desc.TheViews.{roll-Desc}
 use Rattle.sml_syntax.specs.declared.datum.Desc.TheFolds.{ind-Desc, fold-roll-Desc}
-use Rattle.sml_syntax.specs.Data.{DatumLayer, form_of_datum, has_form, has_form_of, has_desc, is_64_bits, is_text}
+use Rattle.sml_syntax.specs.Data.{DatumLayer, has_form, has_form_of, has_desc}
 use Rattle.sml_syntax.specs.Pickles.{zigzag, number_pickle, bool_pickle, list_pickle, form_pickle, pickle_of_form, pickle}
 use Rattle.value_pickle.proofs.Digits.{one_number, one_integer}
 

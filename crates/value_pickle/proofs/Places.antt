@@ -1,15 +1,14 @@
 -- The place at which bytes are no pickle.
-use Rattle.std.proofs.Common.{◌≡◌, ◌⊎◌, ℕ, ◌+◌, ◌-◌, ◌<◌, ◌≤◌, List, [], ◌∷◌, ◌++◌, length, take, drop, Result, Ok, Err, refl, sym, ap, subst, ◌∙◌, append_assoc, inl, inr, arith}
-use Rattle.std.proofs.lemmas.Bool.{cases_lt}
+use Rattle.std.proofs.Common.{◌≡◌, ℕ, ◌-◌, ◌<◌, ◌≤◌, List, [], ◌∷◌, ◌++◌, length, take, drop, Ok, refl, sym, ap, subst, ◌∙◌, append_assoc, inl, arith}
 use Rattle.std.proofs.lemmas.List.{append-nil, length-append, take_at, take-append-drop, length-take-le}
-use Rattle.sml_syntax.proofs.Lists.{cons_parts, front_of_front}
+use Rattle.sml_syntax.proofs.Lists.{front_of_front}
 use Rattle.sml_syntax.specs.declared.datum.Datum.{Datum}
 use Rattle.sml_syntax.specs.declared.datum.Desc.{Desc}
 use Rattle.sml_syntax.specs.Pickles.{pickle, IsPickle, BeginsPickle}
 use Rattle.value_pickle.specs.declared.refusal.Halt.{Halt}
 use Rattle.value_pickle.specs.declared.refusal.Halt.TheVariants as halt
 use Rattle.value_pickle.specs.Reading.{NoPickle, LongestBeginning, GivesDatum}
-use Rattle.value_pickle.specs.Halting.{Stops, Halts, HaltsWhole, IsWhole, Reads}
+use Rattle.value_pickle.specs.Halting.{Halts, HaltsWhole, IsWhole, Reads}
 use Rattle.value_pickle.proofs.OneForm.{one_form, equal_pickles}
 use Rattle.value_pickle.proofs.Wholes.{whole_free}
 

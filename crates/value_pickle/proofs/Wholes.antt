@@ -1,8 +1,7 @@
 -- Where reading of a pickle stops, by the form of its description.
-use Rattle.std.proofs.Common.{◌≡◌, ◌⊎◌, ℕ, zero, suc, ℤ, ◌+◌, ◌-◌, ◌*◌, ◌/◌, ◌%◌, ◌^◌, ◌<◌, ◌≤◌, List, [], ◌∷◌, ◌++◌, length, replicate, Bool, true, false, Option, Some, None, refl, sym, ap, subst, ◌∙◌, inl, inr, append_assoc, arith}
-use Rattle.std.specs.Prelude.{◌&&◌, nat_lt}
-use Rattle.std.specs.List.{list_all}
-use Rattle.std.proofs.lemmas.Bool.{cases_lt, lt-ltb, le-ltb, ltb-true, and_parts}
+use Rattle.std.proofs.Common.{◌≡◌, ℕ, ℤ, ◌-◌, ◌/◌, ◌%◌, ◌^◌, ◌<◌, ◌≤◌, List, [], ◌∷◌, ◌++◌, length, replicate, Bool, true, false, Some, None, refl, sym, ap, subst, ◌∙◌, inl, inr, append_assoc, arith}
+use Rattle.std.specs.Prelude.{◌&&◌}
+use Rattle.std.proofs.lemmas.Bool.{cases_lt, lt-ltb, ltb-true, and_parts}
 use Rattle.std.proofs.lemmas.List.{append-nil, length-append, length-replicate}
 use Rattle.std.proofs.lemmas.List.Folds.{list_all-append}
 use Rattle.std.proofs.lemmas.List.Concat.{flat_map-cons}
@@ -18,13 +17,13 @@ use Rattle.sml_syntax.specs.declared.datum.Desc.TheOpen.{Desc-F}
 use Rattle.sml_syntax.specs.declared.datum.Desc.TheViews.{roll-Desc}
 use Rattle.sml_syntax.specs.declared.datum.Desc.TheFolds.{ind-Desc}
 use Rattle.sml_syntax.specs.Data.{DatumLayer, has_desc, has_form, is_64_bits}
-use Rattle.sml_syntax.specs.Pickles.{zigzag, number_within, bool_pickle, list_pickle, form_pickle, pickle, IsPickle}
+use Rattle.sml_syntax.specs.Pickles.{zigzag, number_within, bool_pickle, list_pickle, form_pickle, pickle}
 use Rattle.value_pickle.specs.declared.refusal.Halt.{Halt}
 use Rattle.value_pickle.specs.declared.refusal.Halt.TheVariants as halt
-use Rattle.value_pickle.specs.Halting.{Stops, Halts, HaltsAtFlag, IsWhole, Reads, all_have, AreItems, item_bytes, ReadsItems, ReadsText, IsCounted, IsNumber, ReadsNumber, limit}
-use Rattle.value_pickle.proofs.Forms.{is_int, is_bool, is_char, is_str, is_unit, is_pair, is_triple, is_opt, is_list}
+use Rattle.value_pickle.specs.Halting.{Stops, Halts, HaltsAtFlag, IsWhole, Reads, all_have, AreItems, item_bytes, ReadsItems, IsCounted, IsNumber, ReadsNumber}
+use Rattle.value_pickle.proofs.Forms.{is_int, is_bool, is_str, is_pair, is_triple, is_opt, is_list}
 use Rattle.value_pickle.proofs.Layers.{has_roll, pickle_roll, has_at, pickle_at}
-use Rattle.value_pickle.proofs.Items.{items_and_list, items_and_end}
+use Rattle.value_pickle.proofs.Items.{items_and_end}
 use Rattle.value_pickle.proofs.Digits.{one_number}
 use Rattle.value_pickle.proofs.OneForm.{one_form}
 use Rattle.value_pickle.proofs.Stopping.{Language, IsPrefixFree, Seq, seq_first, seq_second, stops_first, stops_behind, stops_same, stops_at_once}

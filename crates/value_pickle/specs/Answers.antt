@@ -2,7 +2,6 @@
 use Rattle.std.specs.Prelude.{◌≡◌, ◌⊎◌, ℕ, List, [], ◌∷◌, map, length, Bool, true, ◌==◌, ◌&&◌}
 use Rattle.std.specs.Ordering.{nat_cmp, is_lt}
 use Rattle.std.specs.Cmp.Lexicographic.{slice_cmp}
-use Rattle.sml_syntax.specs.declared.cache.CacheAns.{CacheAns}
 use Rattle.sml_syntax.specs.declared.cache.CacheAns.TheVariants as answer
 use Rattle.sml_syntax.specs.declared.database.WebCall.{WebCall}
 use Rattle.sml_syntax.specs.declared.database.WebCall.TheVariants as call

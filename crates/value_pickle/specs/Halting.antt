@@ -1,5 +1,5 @@
 -- What reading from left to right comes to, and where it stops. Of this project.
-use Rattle.std.specs.Prelude.{◌≡◌, ℕ, zero, suc, ◌+◌, ◌-◌, ◌*◌, ◌^◌, ◌≤◌, ◌<◌, List, [], ◌∷◌, ◌++◌, length, Bool, true, false, ◌==◌, ◌&&◌, ◌||◌, nat_lt, not}
+use Rattle.std.specs.Prelude.{◌≡◌, ℕ, zero, suc, ◌-◌, ◌*◌, ◌^◌, ◌≤◌, ◌<◌, List, ◌∷◌, ◌++◌, length, Bool, true, false, ◌==◌, ◌&&◌, ◌||◌, nat_lt, not}
 use Rattle.std.specs.List.{list_all, flat_map}
 use Rattle.sml_syntax.specs.declared.datum.Datum.{Datum}
 use Rattle.sml_syntax.specs.declared.datum.Desc.{Desc}

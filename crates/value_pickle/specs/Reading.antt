@@ -1,9 +1,8 @@
 -- What reading a pickle comes to. Of this project, as pickles are.
-use Rattle.std.specs.Prelude.{◌≡◌, ◌⊎◌, ℕ, ◌≤◌, ◌<◌, List, [], ◌∷◌, ◌++◌, length, take, Bool, true, Result, Ok, Err}
+use Rattle.std.specs.Prelude.{◌≡◌, ◌⊎◌, ℕ, ◌≤◌, ◌<◌, List, length, take, Result, Ok, Err}
 use Rattle.sml_syntax.specs.declared.datum.Datum.{Datum}
 use Rattle.sml_syntax.specs.declared.datum.Desc.{Desc}
-use Rattle.sml_syntax.specs.Data.{has_desc}
-use Rattle.sml_syntax.specs.Pickles.{pickle, IsPickle, BeginsPickle}
+use Rattle.sml_syntax.specs.Pickles.{IsPickle, BeginsPickle}
 use Rattle.value_pickle.specs.declared.refusal.PickleRefusal.{PickleRefusal}
 use Rattle.value_pickle.specs.declared.refusal.PickleRefusal.TheVariants as refusal
 

@@ -1,4 +1,3 @@
-use Rattle.std.proofs.Common.{arith}
 use Rattle.std.proofs.lemmas.Result.{err_from_is_err_and}
 use Rattle.value_pickle.proofs.Wholes.{halts_in_length, stops_in_text}
 use Rattle.value_pickle.proofs.reading.read_text.Goals as goal
