@@ -30,7 +30,9 @@ pub fn timed(rt: &HostRuntime, count: u32) -> io::Result<()> {
     let start = Instant::now(rt)?;
     let pushed = put_all(rt, &mut rows, count, count.saturating_add(more))?;
     let pushes = start.elapsed(rt)?.as_micros();
-    println!(rt; "cache_rows: {fresh} rows put in {puts} us, {found} found in {looks} us, {pushed} more in {pushes} us")
+    println!(rt;
+        "cache_rows: {fresh} rows put in {puts} us, {found} found in {looks} us, {pushed} more in {pushes} us"
+    )
 }
 
 fn make(rt: &HostRuntime, count: u64) -> io::Result<Rows> {
