@@ -3,7 +3,7 @@ use Rattle.std.proofs.Common.{◌≡◌, ◌≢◌, ℕ, zero, suc, ◌+◌, ◌
 use Rattle.std.proofs.Math.Bool.{beq}
 use Rattle.std.proofs.Math.Nat.{min-le_left, min-le_right, min-eq_left, min-eq_right}
 use Rattle.std.proofs.lemmas.Bool.{cases_lt}
-use Rattle.sml_syntax.specs.TypeTerms.{Term, Terms, variable, made, no_terms, terms, admits, all_admit, of_flag, IsOver, AllOver, by_parts, NameEquality, NeverEqual, AlwaysEqual, PartsEqual, count_of}
+use Rattle.sml_syntax.specs.TypeTerms.{Term, Terms, variable, made, no_terms, terms, admits, all_admit, of_flag, IsOver, AllOver, by_parts}
 use Rattle.hm_types.specs.declared.node.Node.{Node}
 use Rattle.hm_types.specs.declared.node.Node.TheVariants.{Variable, Made, Link}
 use Rattle.hm_types.specs.declared.node.Asked.{Asked}
@@ -12,7 +12,7 @@ use Rattle.hm_types.specs.declared.node.Equality.{Equality}
 use Rattle.hm_types.specs.declared.node.Equality.TheVariants.{Never, Always, Parts}
 use Rattle.hm_types.specs.Classes.{Assign, at, asked_at, name_at, part_list, terms_of, Respects, Holds, Meets, Allows, Takes, equality_of, equality_by}
 use Rattle.hm_types.specs.Joining.{IsIn, Within}
-use Rattle.hm_types.specs.Asking.{Below, both_of, AsksParts, OfParts, Closes, Closed, ClosedBut, Told, Spread, Lowers, LacksAsked, freedom_of, freedom}
+use Rattle.hm_types.specs.Asking.{Below, both_of, AsksParts, OfParts, Closes, ClosedBut, Told, Spread, Lowers, LacksAsked, freedom_of, freedom}
 use Rattle.hm_types.proofs.Sets.{split}
 use Rattle.hm_types.proofs.Members.{in-front, in-snoc, last-in, within-snoc, within-in, at-front}
 

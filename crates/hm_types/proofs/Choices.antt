@@ -1,21 +1,21 @@
 -- A table in solved form: its solutions are the choices at its variables.
-use Rattle.std.proofs.Common.{◌≡◌, ◌≢◌, ℕ, zero, suc, ◌+◌, ◌<◌, ◌≤◌, List, [], ◌∷◌, ◌++◌, length, Bool, true, false, refl, ap, sym, ◌∙◌, subst, arith, get_or, ◌⊎◌, inl, inr, ◌&&◌}
-use Rattle.sml_syntax.specs.TypeTerms.{Term, Terms, variable, made, no_terms, terms, admits, all_admit, of_flag, IsOver, AllOver, by_parts, count_of}
+use Rattle.std.proofs.Common.{◌≡◌, ℕ, zero, suc, ◌<◌, List, [], ◌∷◌, length, Bool, true, false, refl, sym, ◌∙◌, subst, arith, ◌&&◌}
+use Rattle.sml_syntax.specs.TypeTerms.{variable, made, admits, all_admit, of_flag, IsOver, AllOver, by_parts, count_of}
 use Rattle.hm_types.specs.declared.node.Node.{Node}
 use Rattle.hm_types.specs.declared.node.Node.TheVariants.{Variable, Made, Link}
 use Rattle.hm_types.specs.declared.node.Asked.{Asked}
 use Rattle.hm_types.specs.declared.node.TypeName.{TypeName}
 use Rattle.hm_types.specs.declared.node.Equality.{Equality}
 use Rattle.hm_types.specs.declared.node.Equality.TheVariants.{Never, Always, Parts}
-use Rattle.hm_types.specs.Classes.{Assign, at, asked_at, name_at, part_list, terms_of, Respects, Holds, Meets, Allows, Takes, equality_of, equality_by, TypeGraph}
+use Rattle.hm_types.specs.Classes.{Assign, at, asked_at, name_at, part_list, terms_of, Respects, Holds, Allows, Takes, equality_of, equality_by, TypeGraph}
 use Rattle.hm_types.specs.Joining.{Fine, IsFine, IsIn, Within}
-use Rattle.hm_types.specs.Asking.{Below, AsksParts, Closes, Closed}
+use Rattle.hm_types.specs.Asking.{AsksParts, Closes, Closed}
 use Rattle.hm_types.specs.Searching.{Child, Ranked}
 use Rattle.hm_types.specs.Kept.{Sorted, IsSettled}
 use Rattle.hm_types.specs.Solving.{Solves, Solved}
 use Rattle.hm_types.proofs.Steps.{part-length}
 use Rattle.hm_types.proofs.Asking.{over-mono, allows-below}
-use Rattle.hm_types.proofs.Ranks.{child-of, child-in}
+use Rattle.hm_types.proofs.Ranks.{child-in}
 use Rattle.hm_types.proofs.Solved.{solution, solvable, at-variable, unique, Reaches, itself, through}
 
 count-terms : (s : Assign) (xs : List ℕ) → count_of (terms_of s xs) ≡ length xs

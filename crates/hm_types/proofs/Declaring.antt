@@ -1,17 +1,15 @@
 -- One type name more: nothing that stands takes it.
-use Rattle.std.proofs.Common.{◌≡◌, ◌≢◌, ℕ, zero, suc, ◌+◌, ◌<◌, ◌≤◌, List, [], ◌∷◌, ◌++◌, length, Bool, true, false, refl, ap, sym, ◌∙◌, subst, arith, get_or, length-append, ◌⊎◌, inl, inr, ◌^◌, ◌&&◌, ◌↔◌}
-use Rattle.sml_syntax.specs.TypeTerms.{Term, Terms, variable, made, no_terms, terms, admits, all_admit, of_flag, IsOver, AllOver, by_parts, NameEquality}
+use Rattle.std.proofs.Common.{◌≡◌, ℕ, zero, suc, ◌<◌, ◌≤◌, List, [], ◌∷◌, ◌++◌, length, Bool, true, refl, ap, sym, ◌∙◌, subst, arith, length-append, ◌^◌, ◌&&◌, ◌↔◌}
+use Rattle.sml_syntax.specs.TypeTerms.{Term, Terms, variable, made, no_terms, terms, admits, all_admit, of_flag, IsOver, AllOver, by_parts}
 use Rattle.hm_types.specs.declared.node.Node.{Node}
 use Rattle.hm_types.specs.declared.node.Node.TheVariants.{Variable, Made, Link}
 use Rattle.hm_types.specs.declared.node.Asked.{Asked}
 use Rattle.hm_types.specs.declared.node.TypeName.{TypeName}
-use Rattle.hm_types.specs.declared.node.Equality.{Equality}
-use Rattle.hm_types.specs.declared.node.Equality.TheVariants.{Never, Always, Parts}
 use Rattle.hm_types.specs.Classes.{Assign, TypeGraph, at, asked_at, name_at, part_list, Respects, Meets, Allows, Takes, equality_of, equality_by}
 use Rattle.hm_types.specs.Joining.{IsIn}
-use Rattle.hm_types.specs.Asking.{Closes, Closed, AsksParts}
-use Rattle.hm_types.specs.Kept.{Sorted, IsSettled, IsTable}
-use Rattle.hm_types.specs.Solving.{Solves, IsDeclared}
+use Rattle.hm_types.specs.Asking.{Closes, AsksParts}
+use Rattle.hm_types.specs.Kept.{IsTable}
+use Rattle.hm_types.specs.Solving.{Solves}
 use Rattle.hm_types.proofs.Growth.{Place, old_place, new_place, past, place-of}
 
 name-old : (N : List TypeName) (n : TypeName) (f : ℕ) → f < length N → name_at (N ++ n ∷ []) f ≡ name_at N f

@@ -1,19 +1,18 @@
 -- A table with one class, or one type name, more.
-use Rattle.std.proofs.Common.{◌≡◌, ◌≢◌, ℕ, zero, suc, ◌+◌, ◌-◌, ◌<◌, ◌≤◌, List, [], ◌∷◌, ◌++◌, length, take, drop, Bool, true, false, refl, ap, sym, ◌∙◌, subst, arith, get_or, length-append, length-drop, append-nil, ◌⊎◌, inl, inr, ◌^◌, if◌then◌else◌}
-use Rattle.sml_syntax.specs.TypeTerms.{Term, Terms, variable, made, no_terms, terms, admits, all_admit, of_flag, IsOver, AllOver, by_parts}
+use Rattle.std.proofs.Common.{◌≡◌, ℕ, zero, suc, ◌+◌, ◌<◌, ◌≤◌, List, [], ◌∷◌, ◌++◌, length, Bool, true, false, refl, ap, sym, ◌∙◌, subst, arith, length-append, append-nil, ◌⊎◌, inl, inr, ◌^◌, if◌then◌else◌}
+use Rattle.sml_syntax.specs.TypeTerms.{made}
 use Rattle.hm_types.specs.declared.node.Node.{Node}
 use Rattle.hm_types.specs.declared.node.Node.TheVariants.{Variable, Made, Link}
 use Rattle.hm_types.specs.declared.node.Asked.{Asked}
 use Rattle.hm_types.specs.declared.node.TypeName.{TypeName}
 use Rattle.hm_types.specs.declared.node.Equality.{Equality}
 use Rattle.hm_types.specs.declared.node.Equality.TheVariants.{Never, Always, Parts}
-use Rattle.hm_types.specs.Classes.{Assign, TypeGraph, at, asked_at, name_at, terms_of, part_list, Holds, Respects, Meets, Allows, Takes, equality_of, equality_by}
+use Rattle.hm_types.specs.Classes.{Assign, TypeGraph, at, asked_at, name_at, terms_of, part_list, Holds, Respects, Meets, Allows}
 use Rattle.hm_types.specs.Joining.{Fine, IsFine, IsIn, Within}
 use Rattle.hm_types.specs.Asking.{Closes, Closed, AsksParts, Below}
-use Rattle.hm_types.specs.Searching.{Child, Ranked, mark_at}
-use Rattle.hm_types.specs.Kept.{Sorted, IsSettled, IsTable}
+use Rattle.hm_types.specs.Searching.{Child, mark_at}
+use Rattle.hm_types.specs.Kept.{IsSettled, IsTable}
 use Rattle.hm_types.specs.Solving.{Solves, Joins}
-use Rattle.hm_types.proofs.Steps.{part-length}
 use Rattle.hm_types.proofs.Choices.{allows-made}
 use Rattle.hm_types.proofs.Ranks.{child-of, child-in, above, is-above}
 use Rattle.std.proofs.Math.Seq.{take-length}

@@ -1,12 +1,12 @@
 -- Numbers for a table that fall towards the parts, from those of before and of the search.
-use Rattle.std.proofs.Common.{◌≡◌, ◌≢◌, ℕ, zero, suc, ◌+◌, ◌-◌, ◌<◌, ◌≤◌, List, [], ◌∷◌, ◌++◌, length, take, drop, Bool, true, false, refl, ap, sym, ◌∙◌, subst, arith, get_or, ◌⊎◌, inl, inr, if◌then◌else◌}
+use Rattle.std.proofs.Common.{◌≡◌, ℕ, zero, suc, ◌+◌, ◌<◌, ◌≤◌, List, [], ◌∷◌, length, ap, subst, arith, ◌⊎◌, inl, inr, if◌then◌else◌}
 use Rattle.std.proofs.Math.Dec.{ltb}
 use Rattle.std.proofs.lemmas.Bool.{lt-ltb, le-ltb, cases_lt}
 use Rattle.hm_types.specs.declared.node.Node.{Node}
 use Rattle.hm_types.specs.declared.node.Node.TheVariants.{Variable, Made, Link}
 use Rattle.hm_types.specs.declared.node.Asked.{Asked}
 use Rattle.hm_types.specs.declared.node.TypeName.{TypeName}
-use Rattle.hm_types.specs.Classes.{Assign, at, asked_at, part_list, Respects}
+use Rattle.hm_types.specs.Classes.{at, asked_at}
 use Rattle.hm_types.specs.Joining.{Fine, IsFine, IsIn, Within, Frame}
 use Rattle.hm_types.specs.Asking.{Closes, Closed}
 use Rattle.hm_types.specs.Searching.{Child, Ranked, Searched, mark_at}

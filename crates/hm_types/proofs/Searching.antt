@@ -1,15 +1,14 @@
 -- The search for types that hold themselves.
-use Rattle.std.proofs.Common.{◌≡◌, ◌≢◌, ℕ, zero, suc, ◌+◌, ◌-◌, ◌<◌, ◌≤◌, List, [], ◌∷◌, ◌++◌, length, take, drop, Bool, true, false, refl, ap, sym, ◌∙◌, subst, arith, get_or, set, get_or-set_same, get_or-set_other, length-set, ◌⊎◌, inl, inr, length-append, length-take, get_or-take, if◌then◌else◌}
+use Rattle.std.proofs.Common.{◌≡◌, ◌≢◌, ℕ, zero, suc, ◌+◌, ◌-◌, ◌<◌, ◌≤◌, List, [], ◌∷◌, ◌++◌, length, take, false, refl, ap, sym, ◌∙◌, subst, arith, get_or, set, get_or-set_same, get_or-set_other, length-set, ◌⊎◌, inl, inr, length-append, length-take, get_or-take, if◌then◌else◌}
 use Rattle.std.specs.Prelude.{◌==◌, SomeIff, Some, Option}
 use Rattle.std.proofs.lemmas.Grind.{get_or_default_zero}
 use Rattle.std.proofs.Math.Dec.{ltb}
 use Rattle.std.proofs.lemmas.Bool.{lt-ltb, le-ltb}
 use Rattle.hm_types.specs.declared.node.Node.{Node}
-use Rattle.hm_types.specs.declared.node.Node.TheVariants.{Variable, Made, Link}
 use Rattle.hm_types.specs.declared.node.Asked.{Asked}
-use Rattle.hm_types.specs.Classes.{Assign, at, asked_at, part_list, Respects}
+use Rattle.hm_types.specs.Classes.{at, asked_at}
 use Rattle.hm_types.specs.Joining.{IsFine, IsIn, Within}
-use Rattle.hm_types.specs.Searching.{Child, Ranked, IsReady, Numbered, Searched, Stamped, IsPath, IsEndless, mark_at, unseen}
+use Rattle.hm_types.specs.Searching.{Child, IsReady, Numbered, Stamped, IsPath, IsEndless, mark_at, unseen}
 use Rattle.hm_types.proofs.Sets.{split}
 use Rattle.hm_types.proofs.Members.{in-front, last-in, within-snoc, at-front}
 use Rattle.hm_types.proofs.Solved.{endless}

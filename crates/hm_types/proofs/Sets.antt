@@ -1,11 +1,11 @@
 -- One step of the unifier keeps the assignments.
-use Rattle.std.proofs.Common.{◌≡◌, ◌≢◌, ℕ, zero, suc, ◌+◌, ◌<◌, ◌≤◌, List, [], ◌∷◌, ◌++◌, length, take, drop, Bool, true, false, refl, ap, sym, ◌∙◌, subst, arith, get_or, set, get_or-set_same, get_or-set_other, ◌⊎◌, inl, inr, nat_eq, length-set, append_assoc}
+use Rattle.std.proofs.Common.{◌≡◌, ◌≢◌, ℕ, zero, suc, ◌+◌, ◌<◌, List, [], ◌∷◌, ◌++◌, length, Bool, true, false, refl, ap, sym, ◌∙◌, subst, arith, set, get_or-set_same, get_or-set_other, ◌⊎◌, inl, inr, nat_eq}
 use Rattle.std.proofs.lemmas.Bool.{eqb-true, eqb-false}
-use Rattle.sml_syntax.specs.TypeTerms.{Term, Terms, variable, made, no_terms, terms}
+use Rattle.sml_syntax.specs.TypeTerms.{terms}
 use Rattle.hm_types.specs.declared.node.Node.{Node}
-use Rattle.hm_types.specs.declared.node.Node.TheVariants.{Variable, Made, Link}
-use Rattle.hm_types.specs.Classes.{Assign, at, terms_of, part_list, Holds, Respects, Stands, stands_made, stands_free, stands_on}
-use Rattle.hm_types.specs.Joining.{Fine, IsFine, IsLink, Within, IsIn, Pairs, PairsIn, pairs_of, size_of, weight, Steps, Frame, NoSolution}
+use Rattle.hm_types.specs.declared.node.Node.TheVariants.{Variable}
+use Rattle.hm_types.specs.Classes.{Assign, at, terms_of, Holds, Respects}
+use Rattle.hm_types.specs.Joining.{Fine, IsFine, Pairs, PairsIn, pairs_of, size_of, weight}
 
 pub split : (a b : ℕ) → (a ≡ b) ⊎ (a ≢ b)
 split a b = go (nat_eq a b) refl

@@ -1,18 +1,17 @@
 -- The parts of the unifier put together.
 use Rattle.std.specs.Prelude.{not}
-use Rattle.std.proofs.Common.{append-nil, take, drop, ◌++◌, ◌≡◌, ℕ, ◌+◌, ◌<◌, ◌≤◌, List, [], ◌∷◌, length, Bool, true, false, refl, ap, sym, ◌∙◌, subst, arith, ◌⊎◌, inl, inr}
+use Rattle.std.proofs.Common.{append-nil, take, drop, ◌++◌, ◌≡◌, ℕ, ◌<◌, List, [], ◌∷◌, length, Bool, true, false, refl, ap, sym, ◌∙◌, subst, arith, ◌⊎◌, inl, inr}
 use Rattle.std.proofs.Math.ListN.{drop_of_length-le}
 use Rattle.std.proofs.lemmas.List.{take_all}
 use Rattle.hm_types.specs.declared.node.Node.{Node}
-use Rattle.hm_types.specs.declared.node.Node.TheVariants.{Variable, Made, Link}
 use Rattle.hm_types.specs.declared.node.Asked.{Asked}
 use Rattle.hm_types.specs.declared.node.TypeName.{TypeName}
-use Rattle.hm_types.specs.Classes.{Assign, at, asked_at, name_at, Respects, Meets, Allows, TypeGraph}
+use Rattle.hm_types.specs.Classes.{Assign, at, asked_at, Respects, Meets, Allows, TypeGraph}
 use Rattle.hm_types.specs.Joining.{IsFine, IsIn, Within, Pairs, Steps, Keeps, Frame, NoSolution}
 use Rattle.hm_types.specs.Asking.{Closes, Closed, ClosedBut, Spread, Lowers, LacksAsked}
-use Rattle.hm_types.specs.Searching.{Searched, Stamped, IsEndless, mark_at}
+use Rattle.hm_types.specs.Searching.{Searched, Stamped, IsEndless}
 use Rattle.hm_types.specs.Kept.{Sorted, IsSettled, Joined, IsTable}
-use Rattle.hm_types.specs.Solving.{Solves, Solved, Joins, MostGeneral, HasNoUnifier, SameClasses}
+use Rattle.hm_types.specs.Solving.{Solves, MostGeneral}
 use Rattle.hm_types.proofs.Asking.{allows-below}
 use Rattle.hm_types.proofs.Ranks.{ranks-again}
 use Rattle.hm_types.proofs.Choices.{is-solved}

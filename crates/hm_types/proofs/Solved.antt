@@ -1,10 +1,10 @@
 -- A table in which no type holds itself has an assignment for each choice at its variables, and only one.
-use Rattle.std.proofs.Common.{◌≡◌, ◌≢◌, ℕ, zero, suc, ◌+◌, ◌-◌, ◌<◌, ◌≤◌, List, [], ◌∷◌, ◌++◌, length, take, drop, Bool, true, false, refl, ap, sym, ◌∙◌, subst, arith, get_or, ◌⊎◌, inl, inr}
+use Rattle.std.proofs.Common.{◌≡◌, ℕ, zero, suc, ◌+◌, ◌<◌, ◌≤◌, List, [], ◌∷◌, length, refl, ap, sym, ◌∙◌, subst, arith, get_or, ◌⊎◌, inl, inr}
 use Rattle.sml_syntax.specs.TypeTerms.{Term, Terms, variable, made, no_terms, terms}
 use Rattle.hm_types.specs.declared.node.Node.{Node}
 use Rattle.hm_types.specs.declared.node.Node.TheVariants.{Variable, Made, Link}
-use Rattle.hm_types.specs.Classes.{Assign, at, terms_of, part_list, Holds, Respects, Stands, stands_made, stands_free, stands_on}
-use Rattle.hm_types.specs.Joining.{Fine, IsFine, IsLink, Within, IsIn, Pairs, PairsIn, pairs_of, size_of, weight, Steps, Frame, NoSolution}
+use Rattle.hm_types.specs.Classes.{Assign, at, terms_of, part_list, Holds, Respects}
+use Rattle.hm_types.specs.Joining.{Fine, IsFine, IsIn}
 use Rattle.hm_types.specs.Searching.{Child, Ranked}
 
 -- what the node says of the class c, variables being as in v and the rest as in s

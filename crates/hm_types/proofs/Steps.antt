@@ -1,10 +1,10 @@
 -- The cases of the unifier's step.
-use Rattle.std.proofs.Common.{IfOk, Result, Ok, Err, ◌≡◌, ◌≢◌, ℕ, zero, suc, ◌+◌, ◌-◌, ◌<◌, ◌≤◌, List, [], ◌∷◌, ◌++◌, length, take, drop, Bool, true, false, refl, ap, sym, ◌∙◌, subst, arith, get_or, set, get_or-set_same, get_or-set_other, length-set, append_assoc, length-take, length-drop, length-append, get_or-take, get_or-drop, ◌⊎◌, inl, inr}
-use Rattle.sml_syntax.specs.TypeTerms.{Term, Terms, variable, made, no_terms, terms}
+use Rattle.std.proofs.Common.{IfOk, Result, Ok, Err, ◌≡◌, ◌≢◌, ℕ, suc, ◌+◌, ◌-◌, ◌<◌, ◌≤◌, List, [], ◌∷◌, ◌++◌, length, drop, false, refl, ap, sym, ◌∙◌, subst, arith, get_or, set, length-set, length-take, length-drop, length-append, get_or-take, get_or-drop, ◌⊎◌, inl, inr}
+use Rattle.sml_syntax.specs.TypeTerms.{made}
 use Rattle.hm_types.specs.declared.node.Node.{Node}
 use Rattle.hm_types.specs.declared.node.Node.TheVariants.{Variable, Made, Link}
 use Rattle.hm_types.specs.Classes.{Assign, at, terms_of, part_list, Holds, Respects, Stands, stands_made, stands_free, stands_on}
-use Rattle.hm_types.specs.Joining.{Fine, IsFine, IsLink, Within, IsIn, Pairs, PairsIn, pairs_of, size_of, weight, Steps, Keeps, Frame, NoSolution}
+use Rattle.hm_types.specs.Joining.{Fine, IsFine, IsLink, Within, Pairs, PairsIn, pairs_of, size_of, weight, Steps, Keeps, NoSolution}
 use Rattle.hm_types.proofs.Sets.{split, at-set, at-other, respects-set, respects-unset, respects-at, fine-set, weight-set, pairs-append, pairs-left, pairs-right, in-append, in-left, in-right, pairs-terms, terms-pairs, terms-length}
 
 -- both give the class the same type

@@ -1,12 +1,12 @@
 -- What is asked of a class is asked of its parts. Of this project.
-use Rattle.std.specs.Prelude.{◌≡◌, ℕ, suc, ◌+◌, ◌<◌, ◌≤◌, List, [], ◌∷◌, length, Bool, true, false, ◌⊎◌, if◌then◌else◌, ◌||◌, min}
+use Rattle.std.specs.Prelude.{◌≡◌, ℕ, ◌+◌, ◌<◌, ◌≤◌, List, [], ◌∷◌, length, true, ◌⊎◌, if◌then◌else◌, ◌||◌, min}
 use Rattle.hm_types.specs.declared.node.Node.{Node}
 use Rattle.hm_types.specs.declared.node.Node.TheVariants.{Variable, Made, Link}
 use Rattle.hm_types.specs.declared.node.Asked.{Asked}
 use Rattle.hm_types.specs.declared.node.TypeName.{TypeName}
 use Rattle.hm_types.specs.declared.node.Equality.{Equality}
 use Rattle.hm_types.specs.declared.node.Equality.TheVariants.{Never, Always, Parts}
-use Rattle.hm_types.specs.Classes.{Assign, at, asked_at, name_at, part_list, Respects, Meets, Allows}
+use Rattle.hm_types.specs.Classes.{Assign, at, asked_at, name_at, part_list, Respects, Meets}
 use Rattle.hm_types.specs.Joining.{IsIn, Within}
 
 -- the second asks no less than the first

@@ -1,6 +1,6 @@
 -- A table of types: classes, and what each says of the type that stands for it. Of this project.
 use Rattle.std.proofs.Math.Dec.{ltb}
-use Rattle.std.specs.Prelude.{◌≡◌, ℕ, zero, suc, ◌+◌, ◌<◌, ◌≤◌, List, [], ◌∷◌, ◌++◌, length, take, drop, Bool, true, false, Option, None, Some, if◌then◌else◌}
+use Rattle.std.specs.Prelude.{◌≡◌, ℕ, ◌+◌, ◌<◌, ◌≤◌, List, [], ◌∷◌, length, take, drop, Bool, true, false, Option, None, Some, if◌then◌else◌}
 use Rattle.std.proofs.Common.{get_or}
 use Rattle.sml_syntax.specs.TypeTerms.{Term, Terms, made, no_terms, terms, NameEquality, NeverEqual, AlwaysEqual, PartsEqual, admits, of_flag, IsOver}
 use Rattle.hm_types.specs.declared.node.Node.{Node}

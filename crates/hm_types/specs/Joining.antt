@@ -1,9 +1,9 @@
 -- Joining classes: what is still to be made equal. Of this project.
-use Rattle.std.specs.Prelude.{◌≡◌, ℕ, zero, suc, ◌+◌, ◌<◌, ◌≤◌, List, [], ◌∷◌, ◌++◌, length, Bool, true, false, ◌⊎◌}
+use Rattle.std.specs.Prelude.{◌≡◌, ℕ, suc, ◌+◌, ◌<◌, ◌≤◌, List, [], ◌∷◌, length, Bool, true, false, ◌⊎◌}
 use Rattle.std.proofs.Common.{get_or}
 use Rattle.hm_types.specs.declared.node.Node.{Node}
 use Rattle.hm_types.specs.declared.node.Node.TheVariants.{Variable, Made, Link}
-use Rattle.hm_types.specs.Classes.{Assign, at, part_list, Respects, Holds}
+use Rattle.hm_types.specs.Classes.{Assign, at, Respects}
 
 -- parts stand in the list of parts, and links lead to older classes
 abbrev pub Fine : List ℕ → ℕ → Node → Type 0

@@ -1,7 +1,7 @@
 -- What is true of every table. Of this project.
-use Rattle.std.specs.Prelude.{◌≡◌, ℕ, ◌+◌, ◌<◌, ◌≤◌, ◌^◌, List, [], ◌∷◌, length, Bool, true, false}
+use Rattle.std.specs.Prelude.{◌≡◌, ℕ, ◌<◌, ◌≤◌, ◌^◌, List, [], ◌∷◌, length, Bool, false}
 use Rattle.hm_types.specs.declared.node.Node.{Node}
-use Rattle.hm_types.specs.declared.node.Node.TheVariants.{Variable, Made, Link}
+use Rattle.hm_types.specs.declared.node.Node.TheVariants.{Made}
 use Rattle.hm_types.specs.declared.node.Asked.{Asked}
 use Rattle.hm_types.specs.declared.node.TypeName.{TypeName}
 use Rattle.hm_types.specs.Classes.{at, asked_at, name_at}

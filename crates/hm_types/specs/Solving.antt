@@ -1,7 +1,6 @@
 -- The solutions of a table, and what each call does to them. Of this project.
-use Rattle.std.specs.Prelude.{◌≡◌, ℕ, ◌+◌, ◌<◌, ◌≤◌, List, [], ◌∷◌, ◌++◌, length, Bool, true, false}
-use Rattle.sml_syntax.specs.TypeTerms.{Term, made}
-use Rattle.hm_types.specs.Classes.{Assign, TypeGraph, Respects, Meets, Allows, at, asked_at, terms_of, Stands}
+use Rattle.std.specs.Prelude.{◌≡◌, ℕ, ◌+◌, ◌<◌, ◌≤◌, [], ◌∷◌, ◌++◌, length, false}
+use Rattle.hm_types.specs.Classes.{Assign, TypeGraph, Respects, Meets, Allows, at, asked_at}
 use Rattle.hm_types.specs.declared.node.Node.TheVariants.{Variable}
 use Rattle.hm_types.specs.declared.node.Equality.{Equality}
 

@@ -1,4 +1,4 @@
-use Rattle.std.proofs.Common.{◌≡◌, ◌+◌, ◌-◌, ◌<◌, ℕ, sym, ◌∙◌, ap, get_or}
+use Rattle.std.proofs.Common.{◌-◌, sym, ◌∙◌, ap, get_or}
 use Rattle.hm_types.proofs.Searching.{list-done, list-done-less, list-open-less, some-if, some-is}
 use Rattle.hm_types.proofs.copy.list_below.Goals as goal
 

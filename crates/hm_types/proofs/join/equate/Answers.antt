@@ -1,4 +1,4 @@
-use Rattle.std.proofs.Common.{◌≡◌, ◌+◌, ◌∷◌, [], ◌++◌, ◌<◌, ◌≤◌, ℕ, arith}
+use Rattle.std.proofs.Common.{arith}
 use Rattle.hm_types.proofs.Steps.{stands-same, ok-to, by-roots, none-by-roots, none-flip, step-flip, by-one-root}
 use Rattle.hm_types.proofs.join.equate.Goals as goal
 

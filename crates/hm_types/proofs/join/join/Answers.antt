@@ -1,6 +1,6 @@
-use Rattle.std.proofs.Common.{◌≡◌, ◌+◌, ◌∷◌, [], ◌++◌, ◌<◌, ◌≤◌, ℕ, length, arith, subst, sym, ap, ◌∙◌, Err}
+use Rattle.std.proofs.Common.{◌∷◌, [], ◌++◌, subst, sym, ap, ◌∙◌, Err}
 use Rattle.std.proofs.lemmas.Result.{err_from_is_err_and}
-use Rattle.hm_types.specs.Joining.{Steps, PairsIn, Frame}
+use Rattle.hm_types.specs.Joining.{Steps, Frame}
 use Rattle.hm_types.proofs.Members.{frame-same, frame-on, err-over}
 use Rattle.hm_types.proofs.Steps.{in-one, taken-last, go-on, none-go-on, steps-start}
 use Rattle.hm_types.proofs.join.join.Goals as goal

@@ -1,4 +1,4 @@
-use Rattle.std.proofs.Common.{◌≡◌, ◌∷◌, [], ◌+◌, length}
+use Rattle.std.proofs.Common.{◌∷◌, [], ◌+◌, length}
 use Rattle.hm_types.specs.Joining.{Steps, Frame, weight}
 use Rattle.hm_types.proofs.join.join.Given as goal
 

@@ -1,9 +1,7 @@
-use Rattle.std.proofs.Common.{rules, ◌≡◌, ◌+◌, ◌∷◌, [], ◌++◌, ◌<◌, ◌≤◌, ℕ, length, false, IfOk, Err, arith, set}
-use Rattle.hm_types.specs.Joining.{IsFine, IsLink, Within, pairs_of, PairsIn, Steps, NoSolution, weight, Fine}
-use Rattle.hm_types.specs.Classes.{at, part_list}
-use Rattle.hm_types.specs.declared.refusal.UnifyRefusal.TheVariants.{Clash}
-use Rattle.hm_types.specs.declared.node.Node.TheVariants.{Variable, Made, Link}
-use Rattle.hm_types.proofs.Steps.{high-free, low-free, both-made, differs, in-parts, less-free, less-low, both-law}
+use Rattle.std.proofs.Common.{◌+◌, ◌∷◌, ◌≤◌, length, arith, set}
+use Rattle.hm_types.specs.Joining.{Steps, weight}
+use Rattle.hm_types.specs.declared.node.Node.TheVariants.{Link}
+use Rattle.hm_types.proofs.Steps.{high-free, low-free, differs, less-free, less-low, both-law}
 use Rattle.hm_types.proofs.join.merge.Goals as goal
 
 pub returns-in-Variable-clause-steps : goal.returns-in-Variable-clause-steps

@@ -1,4 +1,4 @@
-use Rattle.std.proofs.Common.{◌≡◌, ◌+◌, ◌-◌, ◌∷◌, [], ◌++◌, ◌<◌, ◌≤◌, ℕ, suc, List, drop, length, arith, refl, ap, sym, ◌∙◌, append_assoc, append-nil, get_or, add-one}
+use Rattle.std.proofs.Common.{◌≡◌, ◌+◌, ◌∷◌, [], ◌++◌, ◌<◌, ◌≤◌, ℕ, suc, List, drop, length, arith, ap, sym, ◌∙◌, append_assoc, append-nil, get_or, add-one}
 use Rattle.std.proofs.Math.Seq.{drop-cons}
 use Rattle.std.proofs.Math.ListN.{drop_of_length-le}
 use Rattle.hm_types.specs.Joining.{pairs_of}

@@ -1,5 +1,5 @@
-use Rattle.std.proofs.Common.{◌≡◌, ◌<◌, ◌≤◌, ℕ, arith, subst}
-use Rattle.hm_types.specs.Classes.{Stands, stands_on, at}
+use Rattle.std.proofs.Common.{arith, subst}
+use Rattle.hm_types.specs.Classes.{stands_on, at}
 use Rattle.hm_types.specs.Joining.{Fine}
 use Rattle.hm_types.proofs.Steps.{stands-self, not-a-link}
 use Rattle.hm_types.proofs.join.root_of.Goals as goal

@@ -1,4 +1,4 @@
-use Rattle.std.proofs.Common.{◌≡◌, ◌<◌, ◌≤◌, ℕ}
+use Rattle.std.proofs.Common.{◌≤◌, ℕ}
 use Rattle.hm_types.specs.Classes.{Stands}
 use Rattle.hm_types.proofs.join.root_of.Given as goal
 

@@ -1,4 +1,4 @@
-use Rattle.std.proofs.Common.{◌≡◌, ◌<◌, ℕ, get_or}
+use Rattle.std.proofs.Common.{◌<◌, ℕ, get_or}
 use Rattle.hm_types.specs.Searching.{IsReady}
 use Rattle.hm_types.proofs.search.first_part.Given as goal
 

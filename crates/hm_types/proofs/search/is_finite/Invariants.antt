@@ -1,4 +1,4 @@
-use Rattle.std.proofs.Common.{◌≡◌, ◌<◌, ◌+◌, ◌≤◌, ℕ, length, [], get_or}
+use Rattle.std.proofs.Common.{◌≡◌, ◌<◌, ℕ, [], get_or}
 use Rattle.hm_types.specs.Searching.{Numbered, IsPath, mark_at}
 use Rattle.hm_types.proofs.search.is_finite.Given as goal
 

@@ -1,4 +1,4 @@
-use Rattle.std.proofs.Common.{◌≡◌, ◌+◌, ◌<◌, ◌≤◌, ℕ, ◌-◌, get_or, sym, ◌∙◌, ap}
+use Rattle.std.proofs.Common.{◌-◌, get_or, sym, ◌∙◌, ap}
 use Rattle.hm_types.proofs.Searching.{turn-endless, turn-open, turn-open-less, turn-done, turn-done-less, some-if, some-is}
 use Rattle.hm_types.proofs.search.number_all.Goals as goal
 

@@ -1,4 +1,4 @@
-use Rattle.std.proofs.Common.{◌≡◌, ◌+◌, ◌≤◌, ℕ, length}
+use Rattle.std.proofs.Common.{◌+◌, ◌≤◌, ℕ, length}
 use Rattle.hm_types.specs.Searching.{Numbered, IsPath, unseen, mark_at}
 use Rattle.hm_types.proofs.search.number_all.Given as goal
 

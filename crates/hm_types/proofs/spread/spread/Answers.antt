@@ -1,6 +1,4 @@
-use Rattle.std.proofs.Common.{rules, ◌≡◌, ◌∷◌, [], ◌++◌, ◌<◌, ℕ, length, Err, ap, sym, ◌∙◌}
-use Rattle.std.proofs.lemmas.Result.{err_from_is_err_and}
-use Rattle.hm_types.proofs.Asking.{spread-on, lacks-on, taken-class}
+use Rattle.hm_types.proofs.Asking.{spread-on}
 use Rattle.hm_types.proofs.spread.spread.Goals as goal
 
 pub loop-class-preserved : goal.loop-class-preserved

@@ -1,4 +1,4 @@
-use Rattle.std.proofs.Common.{◌≡◌, ◌+◌, length}
+use Rattle.std.proofs.Common.{◌+◌, length}
 use Rattle.hm_types.specs.Asking.{Spread, freedom}
 use Rattle.hm_types.proofs.spread.spread.Given as goal
 

@@ -1,4 +1,4 @@
-use Rattle.std.proofs.Common.{◌≡◌, ◌<◌, ℕ, get_or}
+use Rattle.std.proofs.Common.{◌<◌, ℕ, get_or}
 use Rattle.hm_types.specs.Classes.{asked_at}
 use Rattle.hm_types.specs.Asking.{Told, Below}
 use Rattle.hm_types.proofs.Asking.{IsTyped}

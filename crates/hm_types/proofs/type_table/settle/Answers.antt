@@ -1,7 +1,6 @@
-use Rattle.std.proofs.Common.{◌≡◌, ◌+◌, ◌∷◌, [], ◌<◌, ◌≤◌, ℕ, length, true, false, Err, ap, sym, ◌∙◌, subst}
+use Rattle.std.proofs.Common.{◌+◌, Err, ap, sym, ◌∙◌, subst}
 use Rattle.std.proofs.lemmas.Result.{err_from_is_err_and}
 use Rattle.hm_types.specs.Searching.{Searched}
-use Rattle.hm_types.specs.Joining.{Frame}
 use Rattle.hm_types.proofs.Members.{err-over}
 use Rattle.hm_types.proofs.Settling.{joined-by, none-joined, none-asked, none-finite}
 use Rattle.hm_types.proofs.type_table.settle.Goals as goal

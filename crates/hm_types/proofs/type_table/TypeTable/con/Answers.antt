@@ -1,4 +1,4 @@
-use Rattle.std.proofs.Common.{◌≡◌, ◌+◌, ◌∷◌, [], ◌<◌, ◌≤◌, ℕ, length, sym, ◌∙◌, subst, arith, ap, refl, ◌++◌, false}
+use Rattle.std.proofs.Common.{◌≡◌, ◌∷◌, [], ◌<◌, length, sym, ◌∙◌, subst, arith, ap, refl, ◌++◌, false}
 use Rattle.hm_types.specs.Joining.{Within}
 use Rattle.hm_types.specs.Classes.{name_at}
 use Rattle.hm_types.specs.declared.node.Node.TheVariants.{Made}

@@ -1,4 +1,4 @@
-use Rattle.std.proofs.Common.{◌≡◌, ◌+◌, ◌∷◌, [], ◌<◌, ◌≤◌, ℕ, length, sym, ◌∙◌, subst, arith, ap, refl, ◌++◌}
+use Rattle.std.proofs.Common.{◌∙◌, arith, refl}
 use Rattle.hm_types.proofs.Declaring.{declared-table, declared-solves, declared-is}
 use Rattle.hm_types.proofs.type_table.TypeTable.declare.Goals as goal
 

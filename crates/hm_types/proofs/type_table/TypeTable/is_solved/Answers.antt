@@ -1,5 +1,4 @@
-use Rattle.std.proofs.Common.{◌≡◌, true, false, subst, Bool}
-use Rattle.std.specs.Prelude.{not}
+use Rattle.std.proofs.Common.{subst}
 use Rattle.hm_types.specs.Solving.{Solved}
 use Rattle.hm_types.proofs.Choices.{is-solved}
 use Rattle.hm_types.proofs.Settling.{not-true}

@@ -1,5 +1,3 @@
-use Rattle.std.proofs.Common.{◌≡◌, sym, subst, [], false}
-use Rattle.hm_types.specs.Kept.{IsTable}
 use Rattle.hm_types.proofs.Growth.{empty-table}
 use Rattle.hm_types.proofs.type_table.TypeTable.make.Goals as goal
 

@@ -1,5 +1,4 @@
-use Rattle.std.proofs.Common.{◌≡◌, ◌+◌, ◌∷◌, [], ◌<◌, ◌≤◌, ℕ, length, true, false, Err, ap, sym, ◌∙◌, subst, arith}
-use Rattle.hm_types.specs.Solving.{MostGeneral}
+use Rattle.std.proofs.Common.{length, ap, sym, ◌∙◌}
 use Rattle.hm_types.proofs.Settling.{unify-table, unify-done, most-is, written}
 use Rattle.hm_types.proofs.type_table.TypeTable.unify.Goals as goal
 

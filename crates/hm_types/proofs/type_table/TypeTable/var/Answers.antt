@@ -1,4 +1,4 @@
-use Rattle.std.proofs.Common.{◌≡◌, ◌+◌, ◌∷◌, [], ◌<◌, ◌≤◌, ℕ, length, sym, ◌∙◌, subst, arith, ap, refl, ◌++◌}
+use Rattle.std.proofs.Common.{◌∷◌, [], ◌∙◌, arith, ap, refl, ◌++◌}
 use Rattle.hm_types.proofs.Growth.{var-table, var-joins, var-joins-is}
 use Rattle.hm_types.specs.declared.node.Node.TheVariants.{Variable}
 use Rattle.hm_types.proofs.type_table.TypeTable.var.Goals as goal
