@@ -1,5 +1,5 @@
 -- Work and depth are one number each.
-use Rattle.std.proofs.Common.{◌≡◌, ◌≤◌, ℕ, ap, sym, ◌∙◌, subst, arith}
+use Rattle.std.proofs.Common.{◌≡◌, ◌≤◌, ℕ, subst, arith}
 use Rattle.region_syntax.specs.Cost.{IsWork, IsDepth}
 
 pub work_is_one : (count : ℕ → ℕ) (v w : ℕ) → IsWork count v → IsWork count w → v ≡ w

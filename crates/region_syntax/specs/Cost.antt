@@ -1,8 +1,7 @@
 -- What a run may cost: work, depth, width and need. Of this project.
-use Rattle.std.specs.Prelude.{◌≡◌, ◌≤◌, ℕ, zero, suc, ◌+◌, ◌*◌, ◌/◌, max, if◌then◌else◌, List, [], ◌∷◌, ◌++◌, length, Option, Some, None, map}
+use Rattle.std.specs.Prelude.{◌≡◌, ◌≤◌, ℕ, suc, ◌+◌, ◌*◌, ◌/◌, max, if◌then◌else◌, List, [], ◌∷◌, ◌++◌, length, Option, Some, None}
 use Rattle.region_syntax.specs.declared.types.Place.{Place}
 use Rattle.region_syntax.specs.declared.types.Place.TheVariants as place
-use Rattle.region_syntax.specs.declared.types.Effect.{Effect}
 use Rattle.region_syntax.specs.GroundTypes as g
 use Rattle.region_syntax.specs.GroundTypes.{GroundType, GroundTypes}
 use Rattle.region_syntax.specs.GroundTerms.{Datatype}

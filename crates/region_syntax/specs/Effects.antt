@@ -1,6 +1,6 @@
 -- Places and effects as sets, and what stands in a type. Tofte and Talpin's region calculus: free regions, substitution; the rest is of this project.
-use Rattle.std.specs.Prelude.{ℕ, zero, suc, nat_eq, Bool, true, false, ◌&&◌, ◌||◌, if◌then◌else◌, List, [], ◌∷◌, ◌++◌, Option, Some, None, map}
-use Rattle.std.specs.List.{list_all, slice_get}
+use Rattle.std.specs.Prelude.{ℕ, zero, suc, nat_eq, Bool, true, false, ◌&&◌, if◌then◌else◌, List, [], ◌∷◌, ◌++◌, Option, Some, None, map}
+use Rattle.std.specs.List.{list_all}
 use Rattle.region_syntax.specs.declared.types.Place.{Place}
 use Rattle.region_syntax.specs.declared.types.Place.TheVariants as place
 use Rattle.region_syntax.specs.declared.types.Effect.{Effect}

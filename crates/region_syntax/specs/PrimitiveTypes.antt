@@ -1,7 +1,7 @@
 -- The types with places that a primitive may have. Of this project, over the table of the basis.
 -- A value that a primitive makes has one place for itself and all its parts. It follows the boxed parts of its arguments that its row names; values
 -- that it compares or that a cache keeps it follows with all their parts. Making a `bool` or an `order` has no effect.
-use Rattle.std.specs.Prelude.{ℕ, zero, suc, nat_eq, Bool, true, false, ◌&&◌, ◌||◌, if◌then◌else◌, List, [], ◌∷◌, Option, Some, None, codes}
+use Rattle.std.specs.Prelude.{ℕ, nat_eq, Bool, true, false, ◌&&◌, ◌||◌, if◌then◌else◌, List, [], ◌∷◌, Option, Some, None}
 use Rattle.std.specs.Option.{option_and_then, option_map_or}
 use Rattle.std.specs.List.{list_all}
 use Rattle.sml_syntax.specs.TypeTerms as s

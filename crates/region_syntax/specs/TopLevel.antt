@@ -1,19 +1,18 @@
 -- The rules of a program's items, and the answers of all its nodes. Of this project.
-use Rattle.std.specs.Prelude.{ℕ, zero, suc, nat_eq, Bool, true, false, ◌&&◌, if◌then◌else◌, List, [], ◌∷◌, ◌++◌, length, map, take, Option, Some, None, codes}
+use Rattle.std.specs.Prelude.{ℕ, nat_eq, Bool, true, false, ◌&&◌, if◌then◌else◌, List, [], ◌∷◌, ◌++◌, map, Option, Some, None, codes}
 use Rattle.std.specs.List.{list_all}
 use Rattle.std.specs.Str.{bytes_eq}
-use Rattle.region_syntax.specs.declared.types.Place.{Place}
 use Rattle.region_syntax.specs.declared.types.Place.TheVariants as place
 use Rattle.region_syntax.specs.declared.types.Effect.{Effect}
 use Rattle.region_syntax.specs.GroundTypes as g
-use Rattle.region_syntax.specs.GroundTypes.{GroundType, GroundTypes}
+use Rattle.region_syntax.specs.GroundTypes.{GroundType}
 use Rattle.region_syntax.specs.GroundTerms.{Datatype}
 use Rattle.region_syntax.specs.RegionTypes.{RegionType}
 use Rattle.region_syntax.specs.RegionTypes as t
 use Rattle.region_syntax.specs.RegionTerms as r
 use Rattle.region_syntax.specs.Effects.{is_number_in, effect_of, on, within, same_ground, same_type, all_of}
 use Rattle.region_syntax.specs.Cost.{distinct}
-use Rattle.region_syntax.specs.RegionTyping.{Scheme, mono, poly, Context, Tables, type_of, is_val, is_group, bound_by_rules, with_group, after, shown_by, bindings_effect, group_effect, bindings_answers, defs_answers, effect}
+use Rattle.region_syntax.specs.RegionTyping.{Scheme, mono, poly, Context, Tables, type_of, is_val, is_group, bound_by_rules, with_group, after, shown_by, bindings_effect, group_effect, bindings_answers, defs_answers}
 
 -- the basis in front of the program's own datatypes and exceptions
 abbrev pub datatype_of : ℕ → List (List ℕ × Option GroundType) → Datatype
