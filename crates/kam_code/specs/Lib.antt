@@ -1,4 +1,5 @@
 pub mod Layout
+pub mod Memory
 pub mod State
 pub mod Step
 pub mod Word

@@ -4,7 +4,8 @@ ghost use Rattle.std.specs.List.{All};
 ghost use Rattle.kam_code.specs.declared.code.Code.{Code};
 ghost use Rattle.kam_code.specs.State.{Region, State};
 ghost use Rattle.kam_code.specs.Layout.{text_words, text_from};
-ghost use Rattle.kam_code.specs.Step.{End, Ends, Stuck, region_words, with_more, pointer, text_behind, steps};
+ghost use Rattle.kam_code.specs.Memory.{region_words, with_more, pointer, text_behind};
+ghost use Rattle.kam_code.specs.Step.{End, Ends, Stuck, steps};
 
 /// A text that is laid out is read back, whatever follows it.
 pub fn text_is_read_back()
