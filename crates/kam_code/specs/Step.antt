@@ -393,18 +393,19 @@ shape_of code (instr.CacheFlush d e) = One (λ state c. flushed code d e c state
 shape_of code instr.DbDml = Two (λ state p q. database_called p q state)
 shape_of code instr.DbRows = Three (λ state p q r. database_called p q state)
 
+-- the frame that ran is saved, and another one begins below the n arguments
+abbrev pub entered_at : ℕ → ℕ → ℕ → State → Next
+entered_at n closure address state = Goes (record state {
+  address = address;
+  base = length state.stack - n;
+  closure = closure;
+  frames = record { address = state.address + 1; base = state.base; closure = state.closure } ∷ state.frames;
+  charge = state.charge + 1;
+})
+
 -- the closure lies below the n arguments, and the address of its code is its first word
 abbrev pub entered : ℕ → State → Next
-entered n state =
-    with_found (slice_get state.stack n) (λ closure.
-    with_found (field_at closure 0 state.regions) (λ address.
-    Goes (record state {
-      address = address;
-      base = length state.stack - n;
-      closure = closure;
-      frames = record { address = state.address + 1; base = state.base; closure = state.closure } ∷ state.frames;
-      charge = state.charge + 1;
-    })))
+entered n state = with_found (slice_get state.stack n) (λ closure. with_found (field_at closure 0 state.regions) (λ address. entered_at n closure address state))
 
 -- the frame ends: its words and its closure go, the result stays, and the call goes on
 abbrev pub returned : ℕ → List ℕ → List Frame → State → Next

@@ -5,7 +5,8 @@ use Rattle.std.proofs.lemmas.Bool.Decides.{nat_tests}
 use Rattle.kam_code.specs.declared.code.Code.{Code}
 use Rattle.kam_code.specs.State.{State, start}
 use Rattle.kam_code.specs.Layout.{text_words}
-use Rattle.kam_code.specs.Step.{Halted, Uncaught, Next, Goes, Ends, Stuck, with_found, onward, pushed, region_words, pointer, grown, made_in, text_made, raised_to, thrown, step, steps, Writes}
+use Rattle.kam_code.specs.Memory.{region_words, pointer}
+use Rattle.kam_code.specs.Step.{Halted, Uncaught, Next, Goes, Ends, Stuck, with_found, onward, pushed, grown, made_in, text_made, raised_to, thrown, step, steps, Writes}
 use Rattle.kam_code.proofs.Runs.{steps-suc}
 use Rattle.smlserver_top.specs.declared.machine.Stop.{Stop}
 use Rattle.smlserver_top.specs.declared.machine.Stop.TheVariants.{Going as going, Halted as halted, Raised as raised, Stuck as stuck}
