@@ -165,13 +165,13 @@ name_result name (Some (Bound-F.Exception number has_argument)) _ v s = Waits s
 name_result name _ form v s = Done (Some ((name, roll-Bound (Bound-F.Variable v)) ∷ [])) s
 
 -- the names bound so far, and those that what follows binds, as long as all fits
+abbrev pub joined : Env → Option Env → Option Env
+joined more None = None
+joined more (Some others) = Some (others ++ more)
+
 abbrev pub and_more : Option Env → (EvalState → Outcome (Option Env)) → EvalState → Outcome (Option Env)
 and_more None next s = Done None s
-and_more (Some more) next s = then_do (next s) (λ others s1. Done (joined others) s1)
-  where
-    joined : Option Env → Option Env
-    joined None = None
-    joined (Some others) = Some (others ++ more)
+and_more (Some more) next s = then_do (next s) (λ others s1. Done (joined more others) s1)
 
 -- patterns and values, from left to right
 abbrev pub each_match : Matcher → Env → EvalState → List Pat → List Value → Outcome (Option Env)
@@ -197,43 +197,38 @@ abbrev pub argument_match : Matcher → Env → EvalState → Pat → Option Val
 argument_match part env s p None = fits_if false s
 argument_match part env s p (Some v) = part env s p v
 
+abbrev pub held_match : Matcher → Env → EvalState → Pat → Option Value → Outcome (Option Env)
+held_match part env s p None = Waits s
+held_match part env s p (Some v) = part env s p v
+
 abbrev pub applied_match : Matcher → Env → EvalState → List ℕ → Pat → Option (Bound-F Bound Value Closure) → ValueLayer → Outcome (Option Env)
 applied_match part env s name p (Some (Bound-F.Constructor has_argument)) (Value-F.Con other argument) =
     if bytes_eq name other then argument_match part env s p argument else fits_if false s
-applied_match part env s name p (Some (Bound-F.Constructor has_argument)) (Value-F.Ref number) = of_held (slice_get s.references number)
-  where
-    of_held : Option Value → Outcome (Option Env)
-    of_held None = Waits s
-    of_held (Some v) = part env s p v
+applied_match part env s name p (Some (Bound-F.Constructor has_argument)) (Value-F.Ref number) = held_match part env s p (slice_get s.references number)
 applied_match part env s name p (Some (Bound-F.Exception number has_argument)) (Value-F.Exn other exn argument) =
     if number == other then argument_match part env s p argument else fits_if false s
 applied_match part env s name p _ _ = Waits s
 
--- a pattern by its form; a text of a pattern is made when it is tried
+-- a constant; a text of a pattern is made when it is tried
+abbrev pub constant_match : PatLayer → ValueLayer → EvalState → Outcome (Option Env)
+constant_match (PatForm-F.Int n) (Value-F.Int m) s = fits_if (same_int n m) s
+constant_match (PatForm-F.Char c) (Value-F.Char d) s = fits_if (c == d) s
+constant_match (PatForm-F.Str bytes) (Value-F.Str other) s = fits_if (bytes_eq bytes other) (counted (text_size bytes) s)
+constant_match _ _ s = Waits s
+
+abbrev pub tuple_match : Matcher → Env → EvalState → List Pat → ValueLayer → Outcome (Option Env)
+tuple_match part env s ps (Value-F.Tuple vs) = each_match part env s ps vs
+tuple_match part env s ps _ = Waits s
+
+-- a pattern by its form
 abbrev pub pat_result : Matcher → Env → EvalState → PatLayer → Value → Outcome (Option Env)
 pat_result part env s PatForm-F.Any v = fits_if true s
-pat_result part env s (PatForm-F.Int n) v = by_int (form_of_value v)
-  where
-    by_int : ValueLayer → Outcome (Option Env)
-    by_int (Value-F.Int m) = fits_if (same_int n m) s
-    by_int _ = Waits s
-pat_result part env s (PatForm-F.Char c) v = by_char (form_of_value v)
-  where
-    by_char : ValueLayer → Outcome (Option Env)
-    by_char (Value-F.Char d) = fits_if (c == d) s
-    by_char _ = Waits s
-pat_result part env s (PatForm-F.Str bytes) v = by_text (form_of_value v)
-  where
-    by_text : ValueLayer → Outcome (Option Env)
-    by_text (Value-F.Str other) = fits_if (bytes_eq bytes other) (counted (text_size bytes) s)
-    by_text _ = Waits s
+pat_result part env s (PatForm-F.Int n) v = constant_match (PatForm-F.Int n) (form_of_value v) s
+pat_result part env s (PatForm-F.Char c) v = constant_match (PatForm-F.Char c) (form_of_value v) s
+pat_result part env s (PatForm-F.Str bytes) v = constant_match (PatForm-F.Str bytes) (form_of_value v) s
 pat_result part env s PatForm-F.Unit v = fits_if true s
 pat_result part env s (PatForm-F.Name name) v = name_result name (opened (meaning name env)) (form_of_value v) v s
-pat_result part env s (PatForm-F.Tuple ps) v = by_tuple (form_of_value v)
-  where
-    by_tuple : ValueLayer → Outcome (Option Env)
-    by_tuple (Value-F.Tuple vs) = each_match part env s ps vs
-    by_tuple _ = Waits s
+pat_result part env s (PatForm-F.Tuple ps) v = tuple_match part env s ps (form_of_value v)
 pat_result part env s (PatForm-F.List ps) v = list_match part env s ps (form_of_value v)
 pat_result part env s (PatForm-F.Con name p) v = applied_match part env s name p (opened (meaning name env)) (form_of_value v)
 pat_result part env s (PatForm-F.Typed p t) v = part env s p v

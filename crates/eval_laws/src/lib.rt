@@ -1,0 +1,6 @@
+//! What holds of the evaluation of programs: greater heights, and worked examples.
+#![tactic(auto)]
+
+mod heights;
+
+pub use heights::{counts_grow, greater_heights};
