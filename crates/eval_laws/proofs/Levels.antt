@@ -94,20 +94,29 @@ then_betters {A = A} (Over s) p q h g = over_more p q h g
     over_more (Waits t) y l e = subst (λ z. s.count + 1 ≤ count_of z) (sym e) l
     over_more (Over t) y l e = omega (arith, l, e)
 
-pub higher_exp : (n m : ℕ) (env : Env) (s : EvalState) (e : Exp) → Betters 1 (eval n env s e) (eval (suc m + n) env s e)
-higher_exp n zero env s e = ((next_height n).exp env s e).2
+one_more : (n : ℕ) → suc n ≡ n + suc zero
+one_more n = omega arith
+
+and_more : (n m : ℕ) → suc (n + suc m) ≡ n + suc (suc m)
+and_more n m = omega arith
+
+pub higher_exp : (n m : ℕ) (env : Env) (s : EvalState) (e : Exp) → Betters 1 (eval n env s e) (eval (n + suc m) env s e)
+higher_exp n zero env s e = subst (λ x. Betters 1 (eval n env s e) (eval x env s e)) (one_more n) (((next_height n).exp env s e).2)
 higher_exp n (suc m) env s e =
-    then_betters (eval n env s e) (eval (suc m + n) env s e) (eval (suc (suc m) + n) env s e) (higher_exp n m env s e) ((next_height (suc m + n)).exp env s e).2
+    subst (λ x. Betters 1 (eval n env s e) (eval x env s e)) (and_more n m)
+    (then_betters (eval n env s e) (eval (n + suc m) env s e) (eval (suc (n + suc m)) env s e) (higher_exp n m env s e) (((next_height (n + suc m)).exp env s e).2))
 
 decs_R : (k : ℕ) (l h : Level) → Levels k l h → (env : Env) (s : EvalState) (decs : List Dec) → R k s.count (then_do (l.scope env env s [] (plan_of decs [] [])) (λ r s1. Done r.0 s1)) (then_do (h.scope env env s [] (plan_of decs [] [])) (λ r s1. Done r.0 s1))
 decs_R k l h r env s decs =
     then_R k s.count (l.scope env env s [] (plan_of decs [] [])) (h.scope env env s [] (plan_of decs [] [])) (λ x s1. Done x.0 s1) (λ x s1. Done x.0 s1) (r.scope env env s [] (plan_of decs [] [])) (λ x s1. (omega arith, omega arith, refl))
 
-pub higher_decs : (n m : ℕ) (env : Env) (s : EvalState) (decs : List Dec) → Betters 1 (eval_decs n env s decs) (eval_decs (suc m + n) env s decs)
-higher_decs n zero env s decs = (decs_R 1 (level n) (level (suc n)) (next_height n) env s decs).2
+pub higher_decs : (n m : ℕ) (env : Env) (s : EvalState) (decs : List Dec) → Betters 1 (eval_decs n env s decs) (eval_decs (n + suc m) env s decs)
+higher_decs n zero env s decs =
+    subst (λ x. Betters 1 (eval_decs n env s decs) (eval_decs x env s decs)) (one_more n) ((decs_R 1 (level n) (level (suc n)) (next_height n) env s decs).2)
 higher_decs n (suc m) env s decs =
-    then_betters (eval_decs n env s decs) (eval_decs (suc m + n) env s decs) (eval_decs (suc (suc m) + n) env s decs) (higher_decs n m env s decs)
-    (decs_R 1 (level (suc m + n)) (level (suc (suc m) + n)) (next_height (suc m + n)) env s decs).2
+    subst (λ x. Betters 1 (eval_decs n env s decs) (eval_decs x env s decs)) (and_more n m)
+    (then_betters (eval_decs n env s decs) (eval_decs (n + suc m) env s decs) (eval_decs (suc (n + suc m)) env s decs) (higher_decs n m env s decs)
+    ((decs_R 1 (level (n + suc m)) (level (suc (n + suc m))) (next_height (n + suc m)) env s decs).2))
 
 pub grown_exp : (n : ℕ) (env : Env) (s : EvalState) (e : Exp) → s.count ≤ count_of (eval n env s e)
 grown_exp n env s e = ((itself n).exp env s e).0

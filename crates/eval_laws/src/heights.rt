@@ -9,8 +9,8 @@ ghost use Rattle.eval_laws.specs.Heights.{count_of, Betters};
 
 /// A greater height changes no outcome but that the height ran out, and there it counts more.
 pub fn greater_heights()
-    ensures expressions { (n m : ℕ) (env : Env) (s : EvalState) (e : Exp) → Betters 1 (eval n env s e) (eval (suc m + n) env s e) }
-    ensures declarations { (n m : ℕ) (env : Env) (s : EvalState) (decs : List Dec) → Betters 1 (eval_decs n env s decs) (eval_decs (suc m + n) env s decs) }
+    ensures expressions { (n m : ℕ) (env : Env) (s : EvalState) (e : Exp) → Betters 1 (eval n env s e) (eval (n + suc m) env s e) }
+    ensures declarations { (n m : ℕ) (env : Env) (s : EvalState) (decs : List Dec) → Betters 1 (eval_decs n env s decs) (eval_decs (n + suc m) env s decs) }
 {}
 
 /// What is counted only grows.
