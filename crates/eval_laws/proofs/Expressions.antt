@@ -132,7 +132,7 @@ exp_R k l h r env s (ExpForm-F.Seq es) = then_R k s.count (each_value l.exp env 
 exp_R k l h r env s (ExpForm-F.App f e) =
     then_R k s.count (l.exp env s f) (h.exp env s f) (λ g s1. then_do (l.exp env s1 e) (λ v s2. application l (form_of_value g) v (counted 1 s2))) (λ g s1. then_do (h.exp env s1 e) (λ v s2. application h (form_of_value g) v (counted 1 s2))) (r.exp env s f)
     (λ g s1. then_R k s1.count (l.exp env s1 e) (h.exp env s1 e) (λ v s2. application l (form_of_value g) v (counted 1 s2)) (λ v s2. application h (form_of_value g) v (counted 1 s2)) (r.exp env s1 e)
-        (λ v s2. weaker k s2.count (s2.count + 1) (application l (form_of_value g) v (counted 1 s2)) (application h (form_of_value g) v (counted 1 s2)) (omega arith) (application_R k l h r (form_of_value g) v (counted 1 s2))))
+    (λ v s2. weaker k s2.count (s2.count + 1) (application l (form_of_value g) v (counted 1 s2)) (application h (form_of_value g) v (counted 1 s2)) (omega arith) (application_R k l h r (form_of_value g) v (counted 1 s2))))
 exp_R k l h r env s (ExpForm-F.Let ds es) =
     then_R k s.count (l.scope env env s [] (plan_of ds [] es)) (h.scope env env s [] (plan_of ds [] es)) (λ x s1. last_value x.1 s1) (λ x s1. last_value x.1 s1) (r.scope env env s [] (plan_of ds [] es)) (λ x s1. last_R k x.1 s1)
 exp_R k l h r env s (ExpForm-F.Fn rules) = (omega arith, omega arith, refl)

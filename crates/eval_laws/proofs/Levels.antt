@@ -32,6 +32,7 @@ over_scope_R outer env s [] plan = ended (coming env plan.decs plan.pending plan
   where
     over_R : Evaluates 0 (λ env1 s1 e. Over s1) (λ env1 s1 e. Over s1)
     over_R env1 s1 e = (omega arith, omega arith, omega arith)
+
     ended : (c : Coming) → R 0 s.count (with_coming (λ env1 s1 e. Over s1) (λ env1 s1 d plan1. Over s) s plan.body c) (with_coming (λ env1 s1 e. Over s1) (λ env1 s1 d plan1. Over s) s plan.body c)
     ended (Comes env1 d plan1) = (omega arith, omega arith, omega arith)
     ended (Ends env1) = with_coming_R 0 (λ env2 s1 e. Over s1) (λ env2 s1 e. Over s1) over_R (λ env2 s1 d plan1. Over s1) (λ env2 s1 d plan1. Over s1) (λ env2 s1 d plan1. (omega arith, omega arith, omega arith)) s plan.body (Ends env1)

@@ -183,7 +183,7 @@ cache_insert_fine : (c k v : Value) (s : EvalState) → Fine s.count (cache_inse
 cache_insert_fine c k v s =
     of_cache_fine (λ id s1. found (λ key s2. found (λ d s3. on_cache id (op.Put key d) s3) (datum_of id.value v) s2) (datum_of id.key k) s1)
     (λ id s1. found_fine (λ key s2. found (λ d s3. on_cache id (op.Put key d) s3) (datum_of id.value v) s2)
-        (λ key s2. found_fine (λ d s3. on_cache id (op.Put key d) s3) (λ d s3. on_cache_fine id (op.Put key d) s3) (datum_of id.value v) s2) (datum_of id.key k) s1)
+    (λ key s2. found_fine (λ d s3. on_cache id (op.Put key d) s3) (λ d s3. on_cache_fine id (op.Put key d) s3) (datum_of id.value v) s2) (datum_of id.key k) s1)
     (form_of_value c) s
 
 unless_failed_fine : (o : Option (List ℕ)) (next : EvalState → V) → ((s : EvalState) → Fine s.count (next s)) → (s : EvalState) → Fine s.count (unless_failed o next s)
@@ -206,7 +206,7 @@ database_fine : (next : WebAns → EvalState → V) → FineAnswer next → (a b
 database_fine next h a b s =
     of_text_fine (λ name s1. cond (is_listed name s1.databases) (found (λ texts s2. on_database name (statement_of (concat texts)) next s2) (pieces_of b) s1) (failure no_database s1))
     (λ name s1. fine_if s1.count (is_listed name s1.databases) (found (λ texts s2. on_database name (statement_of (concat texts)) next s2) (pieces_of b) s1) (failure no_database s1)
-        (found_fine (λ texts s2. on_database name (statement_of (concat texts)) next s2) (λ texts s2. on_database_fine name (statement_of (concat texts)) next h s2) (pieces_of b) s1) (omega arith))
+    (found_fine (λ texts s2. on_database name (statement_of (concat texts)) next s2) (λ texts s2. on_database_fine name (statement_of (concat texts)) next h s2) (pieces_of b) s1) (omega arith))
     (form_of_value a) s
 
 -- ---- the table
@@ -244,63 +244,152 @@ triple_desc_fine : (a b c : Value) (s : EvalState) → Fine s.count (triple_desc
 triple_desc_fine a b c s =
     of_desc_fine (λ d. by_form (of_desc (λ e. by_form (of_desc (λ f s3. Done (desc_value (desc.Triple d e f)) s3)) c)) b)
     (λ d s1. of_desc_fine (λ e. by_form (of_desc (λ f s3. Done (desc_value (desc.Triple d e f)) s3)) c)
-        (λ e s2. of_desc_fine (λ f s3. Done (desc_value (desc.Triple d e f)) s3) (λ f s3. omega arith) (form_of_value c) s2) (form_of_value b) s1)
+    (λ e s2. of_desc_fine (λ f s3. Done (desc_value (desc.Triple d e f)) s3) (λ f s3. omega arith) (form_of_value c) s2) (form_of_value b) s1)
     (form_of_value a) s
 
 primitives_fine : FineRows primitives
-primitives_fine =
-    (pair_fine times (of_ints_fine (λ a b s. int_result (a *ℤ b) s) (λ a b s. int_fine (a *ℤ b) s)) ,
-    (pair_fine concatenation (of_texts_fine (λ a b s. text_result (a ++ b) s) (λ a b s. omega arith)) ,
-    (one_fine int_to_string (of_int_fine (λ n s. text_result (int_text n) s) (λ n s. omega arith)) ,
-    (one_fine web_write (of_text_fine (λ bytes s. Done unit_value (record s { body = s.body ++ bytes })) (λ bytes s. omega arith)) ,
-    (pair_fine plus (of_ints_fine (λ a b s. int_result (a +ℤ b) s) (λ a b s. int_fine (a +ℤ b) s)) ,
-    (pair_fine minus (of_ints_fine (λ a b s. int_result (a -ℤ b) s) (λ a b s. int_fine (a -ℤ b) s)) ,
-    (pair_fine (by_divisor quotient) (by_divisor_fine quotient) ,
-    (pair_fine (by_divisor modulus) (by_divisor_fine modulus) ,
-    (one_fine (of_int (λ n s. int_result (neg_ℤ n) s)) (of_int_fine (λ n s. int_result (neg_ℤ n) s) (λ n s. int_fine (neg_ℤ n) s)) ,
-    (pair_fine (compared int_lt) (compared_fine int_lt) ,
-    (pair_fine (compared int_le) (compared_fine int_le) ,
-    (pair_fine (compared (λ a b. int_lt b a)) (compared_fine (λ a b. int_lt b a)) ,
-    (pair_fine (compared (λ a b. int_le b a)) (compared_fine (λ a b. int_le b a)) ,
-    (tt ,
-    (tt ,
-    (one_fine contents (of_ref_fine (λ number s. found (λ v s1. Done v s1) (slice_get s.references number) s)
-        (λ number s. found_fine (λ v s1. Done v s1) (λ v s1. omega arith) (slice_get s.references number) s)) ,
-    (one_fine (of_parts (λ r v s. by_form (of_ref (λ number s1. assigned number v s1)) r s))
-        (of_parts_fine (λ r v s. by_form (of_ref (λ number s1. assigned number v s1)) r s)
-        (λ r v s. of_ref_fine (λ number s1. assigned number v s1) (λ number s1. assigned_fine number v s1) (form_of_value r) s)) ,
-    (one_fine (of_char (λ c s. Done (int_value (pos c)) s)) (of_char_fine (λ c s. Done (int_value (pos c)) s) (λ c s. omega arith)) ,
-    (one_fine to_char (of_int_fine (λ n s. char_or (thrown 5 (codes "Chr")) (byte_of n) s) (λ n s. char_or_fine (thrown 5 (codes "Chr")) (λ s1. omega arith) (byte_of n) s)) ,
-    (one_fine (of_text (λ bytes s. Done (int_value (pos (length bytes))) s)) (of_text_fine (λ bytes s. Done (int_value (pos (length bytes))) s) (λ bytes s. omega arith)) ,
-    (one_fine (of_char (λ c s. text_result (c ∷ []) s)) (of_char_fine (λ c s. text_result (c ∷ []) s) (λ c s. omega arith)) ,
-    (pair_fine sub sub_fine ,
-    (one_fine (of_three (λ a b c s. cut (form_of_value a) (form_of_value b) (form_of_value c) s))
-        (of_three_fine (λ a b c s. cut (form_of_value a) (form_of_value b) (form_of_value c) s) (λ a b c s. cut_fine (form_of_value a) (form_of_value b) (form_of_value c) s)) ,
-    ((λ v s. found_fine (λ texts s1. text_result (concat texts) s1) (λ texts s1. omega arith) (texts_of v) s) ,
-    (pair_fine (of_texts (λ a b s. Done (order_value (slice_cmp nat_cmp a b)) s)) (of_texts_fine (λ a b s. Done (order_value (slice_cmp nat_cmp a b)) s) (λ a b s. omega arith)) ,
-    (one_fine (of_text (λ bytes s. optional_int (number_front bytes) s)) (of_text_fine (λ bytes s. optional_int (number_front bytes) s) (λ bytes s. optional_int_fine (number_front bytes) s)) ,
-    (one_fine (of_text set_type) (of_text_fine set_type set_type_fine) ,
-    (one_fine (of_int set_status) (of_int_fine set_status set_status_fine) ,
-    (one_fine (of_text (λ name s. optional_text (text_under name s.form) s)) (of_text_fine (λ name s. optional_text (text_under name s.form) s) (λ name s. optional_text_fine (text_under name s.form) s)) ,
-    (one_fine (of_text (λ name s. text_list_result (texts_under name s.form) s)) (of_text_fine (λ name s. text_list_result (texts_under name s.form) s) (λ name s. omega arith)) ,
-    (tt ,
-    (tt ,
-    (tt ,
-    (tt ,
-    (tt ,
-    (pair_desc_fine ,
-    (triple_desc_fine ,
-    (one_fine (of_desc (λ d s. Done (desc_value (desc.Opt d)) s)) (of_desc_fine (λ d s. Done (desc_value (desc.Opt d)) s) (λ d s. omega arith)) ,
-    (one_fine (of_desc (λ d s. Done (desc_value (desc.List d)) s)) (of_desc_fine (λ d s. Done (desc_value (desc.List d)) s) (λ d s. omega arith)) ,
-    (one_fine (of_four (λ a b c d s. cache_get (form_of_value a) (form_of_value b) (form_of_value c) (form_of_value d) s))
-        (of_four_fine (λ a b c d s. cache_get (form_of_value a) (form_of_value b) (form_of_value c) (form_of_value d) s)
-        (λ a b c d s. cache_get_fine (form_of_value a) (form_of_value b) (form_of_value c) (form_of_value d) s)) ,
-    (cache_lookup_fine ,
-    (one_fine (of_three cache_insert) (of_three_fine cache_insert cache_insert_fine) ,
-    (one_fine (of_cache (λ id s. on_cache id op.Flush s)) (of_cache_fine (λ id s. on_cache id op.Flush s) (λ id s. on_cache_fine id op.Flush s)) ,
-    (one_fine (of_parts (database dml_result)) (of_parts_fine (database dml_result) (database_fine dml_result dml_fine)) ,
-    (one_fine (of_parts (database rows_result)) (of_parts_fine (database rows_result) (database_fine rows_result rows_fine)) ,
-    tt)))))))))))))))))))))))))))))))))))))))))))))
+primitives_fine = (
+  pair_fine times (of_ints_fine (λ a b s. int_result (a *ℤ b) s) (λ a b s. int_fine (a *ℤ b) s)),
+  (
+    pair_fine concatenation (of_texts_fine (λ a b s. text_result (a ++ b) s) (λ a b s. omega arith)),
+    (
+      one_fine int_to_string (of_int_fine (λ n s. text_result (int_text n) s) (λ n s. omega arith)),
+      (
+        one_fine web_write (of_text_fine (λ bytes s. Done unit_value (record s { body = s.body ++ bytes })) (λ bytes s. omega arith)),
+        (
+          pair_fine plus (of_ints_fine (λ a b s. int_result (a +ℤ b) s) (λ a b s. int_fine (a +ℤ b) s)),
+          (
+            pair_fine minus (of_ints_fine (λ a b s. int_result (a -ℤ b) s) (λ a b s. int_fine (a -ℤ b) s)),
+            (
+              pair_fine (by_divisor quotient) (by_divisor_fine quotient),
+              (
+                pair_fine (by_divisor modulus) (by_divisor_fine modulus),
+                (
+                  one_fine (of_int (λ n s. int_result (neg_ℤ n) s)) (of_int_fine (λ n s. int_result (neg_ℤ n) s) (λ n s. int_fine (neg_ℤ n) s)),
+                  (
+                    pair_fine (compared int_lt) (compared_fine int_lt),
+                    (
+                      pair_fine (compared int_le) (compared_fine int_le),
+                      (
+                        pair_fine (compared (λ a b. int_lt b a)) (compared_fine (λ a b. int_lt b a)),
+                        (
+                          pair_fine (compared (λ a b. int_le b a)) (compared_fine (λ a b. int_le b a)),
+                          (
+                            tt,
+                            (
+                              tt,
+                              (
+                                one_fine contents (of_ref_fine (λ number s. found (λ v s1. Done v s1) (slice_get s.references number) s)
+                                    (λ number s. found_fine (λ v s1. Done v s1) (λ v s1. omega arith) (slice_get s.references number) s)),
+                                (
+                                  one_fine (of_parts (λ r v s. by_form (of_ref (λ number s1. assigned number v s1)) r s))
+                                      (of_parts_fine (λ r v s. by_form (of_ref (λ number s1. assigned number v s1)) r s)
+                                      (λ r v s. of_ref_fine (λ number s1. assigned number v s1) (λ number s1. assigned_fine number v s1) (form_of_value r) s)),
+                                  (
+                                    one_fine (of_char (λ c s. Done (int_value (pos c)) s)) (of_char_fine (λ c s. Done (int_value (pos c)) s) (λ c s. omega arith)),
+                                    (
+                                      one_fine to_char (of_int_fine (λ n s. char_or (thrown 5 (codes "Chr")) (byte_of n) s) (λ n s. char_or_fine (thrown 5 (codes "Chr")) (λ s1. omega arith) (byte_of n) s)),
+                                      (
+                                        one_fine (of_text (λ bytes s. Done (int_value (pos (length bytes))) s)) (of_text_fine (λ bytes s. Done (int_value (pos (length bytes))) s) (λ bytes s. omega arith)),
+                                        (
+                                          one_fine (of_char (λ c s. text_result (c ∷ []) s)) (of_char_fine (λ c s. text_result (c ∷ []) s) (λ c s. omega arith)),
+                                          (
+                                            pair_fine sub sub_fine,
+                                            (
+                                              one_fine (of_three (λ a b c s. cut (form_of_value a) (form_of_value b) (form_of_value c) s))
+                                                  (of_three_fine (λ a b c s. cut (form_of_value a) (form_of_value b) (form_of_value c) s) (λ a b c s. cut_fine (form_of_value a) (form_of_value b) (form_of_value c) s)),
+                                              (
+                                                (λ v s. found_fine (λ texts s1. text_result (concat texts) s1) (λ texts s1. omega arith) (texts_of v) s),
+                                                (
+                                                  pair_fine (of_texts (λ a b s. Done (order_value (slice_cmp nat_cmp a b)) s)) (of_texts_fine (λ a b s. Done (order_value (slice_cmp nat_cmp a b)) s) (λ a b s. omega arith)),
+                                                  (
+                                                    one_fine (of_text (λ bytes s. optional_int (number_front bytes) s)) (of_text_fine (λ bytes s. optional_int (number_front bytes) s) (λ bytes s. optional_int_fine (number_front bytes) s)),
+                                                    (
+                                                      one_fine (of_text set_type) (of_text_fine set_type set_type_fine),
+                                                      (
+                                                        one_fine (of_int set_status) (of_int_fine set_status set_status_fine),
+                                                        (
+                                                          one_fine (of_text (λ name s. optional_text (text_under name s.form) s)) (of_text_fine (λ name s. optional_text (text_under name s.form) s) (λ name s. optional_text_fine (text_under name s.form) s)),
+                                                          (
+                                                            one_fine (of_text (λ name s. text_list_result (texts_under name s.form) s)) (of_text_fine (λ name s. text_list_result (texts_under name s.form) s) (λ name s. omega arith)),
+                                                            (
+                                                              tt,
+                                                              (
+                                                                tt,
+                                                                (
+                                                                  tt,
+                                                                  (
+                                                                    tt,
+                                                                    (
+                                                                      tt,
+                                                                      (
+                                                                        pair_desc_fine,
+                                                                        (
+                                                                          triple_desc_fine,
+                                                                          (
+                                                                            one_fine (of_desc (λ d s. Done (desc_value (desc.Opt d)) s)) (of_desc_fine (λ d s. Done (desc_value (desc.Opt d)) s) (λ d s. omega arith)),
+                                                                            (
+                                                                              one_fine (of_desc (λ d s. Done (desc_value (desc.List d)) s)) (of_desc_fine (λ d s. Done (desc_value (desc.List d)) s) (λ d s. omega arith)),
+                                                                              (
+                                                                                one_fine (of_four (λ a b c d s. cache_get (form_of_value a) (form_of_value b) (form_of_value c) (form_of_value d) s))
+                                                                                    (of_four_fine (λ a b c d s. cache_get (form_of_value a) (form_of_value b) (form_of_value c) (form_of_value d) s)
+                                                                                    (λ a b c d s. cache_get_fine (form_of_value a) (form_of_value b) (form_of_value c) (form_of_value d) s)),
+                                                                                (
+                                                                                  cache_lookup_fine,
+                                                                                  (
+                                                                                    one_fine (of_three cache_insert) (of_three_fine cache_insert cache_insert_fine),
+                                                                                    (
+                                                                                      one_fine (of_cache (λ id s. on_cache id op.Flush s)) (of_cache_fine (λ id s. on_cache id op.Flush s) (λ id s. on_cache_fine id op.Flush s)),
+                                                                                      (
+                                                                                        one_fine (of_parts (database dml_result)) (of_parts_fine (database dml_result) (database_fine dml_result dml_fine)),
+                                                                                        (
+                                                                                          one_fine (of_parts (database rows_result)) (of_parts_fine (database rows_result) (database_fine rows_result rows_fine)),
+                                                                                          tt,
+                                                                                        ),
+                                                                                      ),
+                                                                                    ),
+                                                                                  ),
+                                                                                ),
+                                                                              ),
+                                                                            ),
+                                                                          ),
+                                                                        ),
+                                                                      ),
+                                                                    ),
+                                                                  ),
+                                                                ),
+                                                              ),
+                                                            ),
+                                                          ),
+                                                        ),
+                                                      ),
+                                                    ),
+                                                  ),
+                                                ),
+                                              ),
+                                            ),
+                                          ),
+                                        ),
+                                      ),
+                                    ),
+                                  ),
+                                ),
+                              ),
+                            ),
+                          ),
+                        ),
+                      ),
+                    ),
+                  ),
+                ),
+              ),
+            ),
+          ),
+        ),
+      ),
+    ),
+  ),
+)
 
 -- two comparings side by side
 abbrev pub Compares : ℕ → Comparing → Comparing → Type 0

@@ -4,5 +4,8 @@
 mod examples;
 mod heights;
 
-pub use examples::{bind_is_raised, division_raises, division_rounds_down, plain_piece_is_quoted, references_are_told_apart};
+pub use examples::{
+    bind_is_raised, division_raises, division_rounds_down, plain_piece_is_quoted,
+    references_are_told_apart,
+};
 pub use heights::{counts_grow, greater_heights};

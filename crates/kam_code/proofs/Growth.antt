@@ -52,7 +52,7 @@ failed_grows : (code : Code) (text stack : List ℕ) (s : State) → Grows s (fa
 failed_grows code text stack s =
     made_grows s s 1 (text_words text) (λ q written. made_in 1 (8 ∷ q ∷ []) written (λ p later. raised_to code 8 p s.handlers (onward stack later))) (omega arith, omega arith)
     (λ q w k. made_grows s w 1 (8 ∷ q ∷ []) (λ p later. raised_to code 8 p s.handlers (onward stack later)) k
-        (λ p v l. raised_to_grows code 8 p s (onward stack v) s.handlers (omega (arith, l.0)) l.1))
+    (λ p v l. raised_to_grows code 8 p s (onward stack v) s.handlers (omega (arith, l.0)) l.1))
 
 words_grows : (serial : ℕ) (more stack : List ℕ) (s : State) → Grows s (words_made serial more stack s)
 words_grows serial more stack s = made_grows s s serial more (λ p later. Goes (onward (p ∷ stack) later)) (omega arith, omega arith) (λ p v l. next_grows s v (p ∷ stack) l)
@@ -62,7 +62,7 @@ datum_grows serial d stack s =
     found_grows s (region_words serial s.regions)
     (λ words. made_in serial (laid_datum d (pointer serial (length words))).0 s (λ p later. Goes (onward ((laid_datum d p).1 ∷ stack) later)))
     (λ words. made_grows s s serial (laid_datum d (pointer serial (length words))).0 (λ p later. Goes (onward ((laid_datum d p).1 ∷ stack) later)) (omega arith, omega arith)
-        (λ p v l. next_grows s v ((laid_datum d p).1 ∷ stack) l))
+    (λ p v l. next_grows s v ((laid_datum d p).1 ∷ stack) l))
 
 -- each result
 delivered_grows : (code : Code) (s : State) (stack : List ℕ) (r : Result) → Grows s (delivered code s stack r)

@@ -52,8 +52,8 @@ with_field p i word [] = None
 with_field p i word (region ∷ regions) =
     if region.serial == p / 2 ^ 32
     then (if nat_lt (p % 2 ^ 32 + i) (length region.words)
-        then Some (record { serial = region.serial; words = set region.words (p % 2 ^ 32 + i) word } ∷ regions)
-        else None)
+    then Some (record { serial = region.serial; words = set region.words (p % 2 ^ 32 + i) word } ∷ regions)
+    else None)
     else option_map (λ more. region ∷ more) (with_field p i word regions)
 
 -- all words of the live regions: no list that ends has more cells
@@ -78,7 +78,7 @@ items_of zero word regions = if word == 0 then Some [] else None
 items_of (suc n) word regions =
     if word == 0 then Some []
     else option_and_then (λ pair. and_both (λ item items. item ∷ items) (field_at pair 0 regions) (option_and_then (λ rest. items_of n rest regions) (field_at pair 1 regions)))
-        (argument_of_index 1 (field_at word 0 regions) (field_at word 1 regions))
+    (argument_of_index 1 (field_at word 0 regions) (field_at word 1 regions))
   where
     argument_of_index : ℕ → Option ℕ → Option ℕ → Option ℕ
     argument_of_index index None argument = None
@@ -122,7 +122,7 @@ datum_by (Desc-F.Pair a b) word regions =
     and_both datum.Pair (option_and_then (λ w. a w regions) (field_at word 0 regions)) (option_and_then (λ w. b w regions) (field_at word 1 regions))
 datum_by (Desc-F.Triple a b c) word regions =
     all_three datum.Triple (option_and_then (λ w. a w regions) (field_at word 0 regions)) (option_and_then (λ w. b w regions) (field_at word 1 regions))
-        (option_and_then (λ w. c w regions) (field_at word 2 regions))
+    (option_and_then (λ w. c w regions) (field_at word 2 regions))
 datum_by (Desc-F.Opt a) word regions =
     if is_pointer word then option_map (λ x. datum.Opt (Some x)) (option_and_then (λ w. a w regions) (field_at word 1 regions)) else Some (datum.Opt None)
 datum_by (Desc-F.List a) word regions = option_map datum.List (option_and_then (of_each (λ w. a w regions)) (list_at word regions))
@@ -209,10 +209,10 @@ cache_words name used time size = name ∷ number_of_bool used ∷ (limit_words 
 abbrev pub kind_at : ℕ → List Region → Option Kind
 kind_at p regions =
     all_three (λ used time size. record { used = used == 1; time = time; size = size })
-        (field_at p 1 regions) (limit_at (field_at p 2 regions) (field_at p 3 regions)) (limit_at (field_at p 4 regions) (field_at p 5 regions))
+    (field_at p 1 regions) (limit_at (field_at p 2 regions) (field_at p 3 regions)) (limit_at (field_at p 4 regions) (field_at p 5 regions))
 
 -- the cache that a pointer leads to, with the descriptions of its key and value
 abbrev pub cache_at : Desc → Desc → ℕ → List Region → Option CacheId
 cache_at key value p regions =
     and_both (λ name kind. record { name = name; key = key; value = value; kind = kind })
-        (option_and_then (λ name. text_behind name regions) (field_at p 0 regions)) (kind_at p regions)
+    (option_and_then (λ name. text_behind name regions) (field_at p 0 regions)) (kind_at p regions)

@@ -234,11 +234,11 @@ abbrev pub cache_made : ℕ → ℕ → ℕ → State → Result
 cache_made name kind r state =
     of_found (text_behind name state.regions) (λ text.
     if is_cache_name text then
-      of_found (field_at kind 0 state.regions) (λ index.
-      of_found (field_at kind 1 state.regions) (λ limits.
-      of_found (option_and_then (λ w. optional_number w state.regions) (field_at limits 0 state.regions)) (λ time.
-      of_found (option_and_then (λ w. optional_number w state.regions) (field_at limits 1 state.regions)) (λ size.
-      cache_with r name (index == 0) (limit_of time) (limit_of size)))))
+    of_found (field_at kind 0 state.regions) (λ index.
+    of_found (field_at kind 1 state.regions) (λ limits.
+    of_found (option_and_then (λ w. optional_number w state.regions) (field_at limits 0 state.regions)) (λ time.
+    of_found (option_and_then (λ w. optional_number w state.regions) (field_at limits 1 state.regions)) (λ size.
+    cache_with r name (index == 0) (limit_of time) (limit_of size)))))
     else Fails bad_cache_name)
 
 -- a call on a cache whose key and value have the descriptions of these numbers

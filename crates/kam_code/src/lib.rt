@@ -14,7 +14,8 @@ mod listing;
 pub use code::Code;
 pub use instr::Instr;
 pub use laws::{
-    call_returns, ended_run_lacks_no_step, pair_is_read, raise_leaves_two_frames, steps_grow, text_is_made, text_is_read_back, text_stays,
+    call_returns, ended_run_lacks_no_step, pair_is_read, raise_leaves_two_frames, steps_grow,
+    text_is_made, text_is_read_back, text_stays,
 };
 pub use layout::{append_text, push_text};
 pub use listing::list_code;

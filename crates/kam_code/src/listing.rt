@@ -148,7 +148,12 @@ fn push_number(alloc: Global, lines: &mut Vec<u8>, operand: Option<u64>) -> Resu
 }
 
 // Adds an instruction's number and name.
-fn push_head(alloc: Global, lines: &mut Vec<u8>, number: usize, instr: Instr) -> Result<(), NoMemory>
+fn push_head(
+    alloc: Global,
+    lines: &mut Vec<u8>,
+    number: usize,
+    instr: Instr,
+) -> Result<(), NoMemory>
     ensures { OnOk result (lines.new.items ≡ lines.old.items ++ line_head number instr) }
 {
     lines.extend_from_slice(number.to_string(alloc)?.as_bytes())?;
@@ -168,7 +173,12 @@ fn push_operands(alloc: Global, lines: &mut Vec<u8>, instr: Instr) -> Result<(),
 }
 
 // Adds its line.
-fn push_line(alloc: Global, lines: &mut Vec<u8>, number: usize, instr: Instr) -> Result<(), NoMemory>
+fn push_line(
+    alloc: Global,
+    lines: &mut Vec<u8>,
+    number: usize,
+    instr: Instr,
+) -> Result<(), NoMemory>
     ensures { OnOk result (lines.new.items ≡ lines.old.items ++ line number instr) }
 {
     push_head(alloc, lines, number, instr)?;
