@@ -1,4 +1,4 @@
-//! Tests of what stands below the machine: the stores of regions and their pages.
+//! Tests of what stands below the machine: the stores of regions, their pages, and the listing of code.
 #![tactic(auto)]
 
 #[cfg(test)]
@@ -7,6 +7,8 @@ mod answer;
 mod calls;
 #[cfg(test)]
 mod list_body;
+#[cfg(test)]
+mod listing;
 #[cfg(test)]
 mod stores;
 #[cfg(test)]
