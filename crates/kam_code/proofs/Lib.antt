@@ -1,3 +1,4 @@
+pub mod Growth
 pub mod Packed
 pub mod Regions
 pub mod Runs

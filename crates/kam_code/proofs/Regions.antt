@@ -3,7 +3,7 @@ use Rattle.std.proofs.Common.{◌≡◌, ℕ, ◌/◌, ◌%◌, ◌^◌, ◌<◌
 use Rattle.std.specs.Prelude.{◌==◌, option_and_then}
 use Rattle.kam_code.specs.State.{Region}
 use Rattle.kam_code.specs.Layout.{text_words, text_at}
-use Rattle.kam_code.specs.Step.{region_words, with_more, pointer, text_behind}
+use Rattle.kam_code.specs.Memory.{region_words, with_more, pointer, text_behind}
 use Rattle.kam_code.proofs.Packed.{IsBytes, text_at-append, text_at-made}
 
 abbrev text_in : ℕ → Option (List ℕ) → Option (List ℕ)

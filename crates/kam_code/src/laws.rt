@@ -1,10 +1,14 @@
 // What holds of the definitions.
-ghost use Rattle.std.specs.Prelude.{◌≡◌, ◌≢◌, ◌++◌, ◌<◌, ◌^◌, List, ℕ, length, Some};
+ghost use Rattle.std.specs.Prelude.{◌≡◌, ◌≢◌, ◌++◌, ◌<◌, ◌^◌, List, [], ℕ, length, Some};
 ghost use Rattle.std.specs.List.{All};
 ghost use Rattle.kam_code.specs.declared.code.Code.{Code};
-ghost use Rattle.kam_code.specs.State.{Region, State};
+ghost use Rattle.kam_code.specs.State.{Region, State, start};
 ghost use Rattle.kam_code.specs.Layout.{text_words, text_from};
-ghost use Rattle.kam_code.specs.Step.{End, Ends, Stuck, region_words, with_more, pointer, text_behind, steps};
+ghost use Rattle.kam_code.specs.Memory.{region_words, with_more, pointer, text_behind};
+ghost use Rattle.kam_code.specs.Step.{End, Ends, Halted, Stuck, step, steps, resumed};
+ghost use Rattle.kam_code.specs.Growth.{Grows};
+ghost use Rattle.kam_code.specs.Examples.{pair_code, pair_end, call_code, call_end, raise_code, raise_end};
+ghost use Rattle.sml_syntax.specs.declared.database.WebAns.{WebAns};
 
 /// A text that is laid out is read back, whatever follows it.
 pub fn text_is_read_back()
@@ -24,4 +28,25 @@ pub fn text_stays()
 /// Where a run ends, no state before its end lacks a step.
 pub fn ended_run_lacks_no_step()
     ensures { (code : Code) (state final : State) (end : End) (n m : ℕ) → steps code n state ≡ Ends end final → steps code m state ≢ Stuck }
+{}
+
+/// A step makes the charge greater, and never lowers the number of regions made; so does the step of a call that has its answer.
+pub fn steps_grow()
+    ensures steps { (code : Code) (state : State) → Grows state (step code state) }
+    ensures answers { (code : Code) (answer : WebAns) (state : State) → Grows state (resumed code answer state) }
+{}
+
+/// A pair is made in a region, read, and its region ends.
+pub fn pair_is_read()
+    ensures { steps pair_code 8 (start [] []) ≡ Ends Halted pair_end }
+{}
+
+/// A function is called, and returns.
+pub fn call_returns()
+    ensures { steps call_code 10 (start [] []) ≡ Ends Halted call_end }
+{}
+
+/// A raise leaves two frames.
+pub fn raise_leaves_two_frames()
+    ensures { steps raise_code 18 (start [] []) ≡ Ends Halted raise_end }
 {}

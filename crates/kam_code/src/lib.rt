@@ -1,15 +1,21 @@
 //! The instructions of the machine that runs scripts, and how their steps go.
 //!
 //! `specs/State.antt` is what the machine holds, `specs/Step.antt` what each instruction does with
-//! it, and `specs/Layout.antt` how a text lies in words.
+//! it, `specs/Layout.antt` and `specs/Memory.antt` how texts and the other values lie in words, and
+//! `specs/Listing.antt` the lines that `list_code` gives.
 #![tactic(auto)]
 
 mod code;
 mod instr;
 mod laws;
 mod layout;
+mod listing;
 
 pub use code::Code;
 pub use instr::Instr;
-pub use laws::{ended_run_lacks_no_step, text_is_made, text_is_read_back, text_stays};
+pub use laws::{
+    call_returns, ended_run_lacks_no_step, pair_is_read, raise_leaves_two_frames, steps_grow,
+    text_is_made, text_is_read_back, text_stays,
+};
 pub use layout::{append_text, push_text};
+pub use listing::list_code;

@@ -1,4 +1,5 @@
-//! Tests of what stands below the machine: the stores of regions and their pages, and the terms with regions.
+//! Tests of what stands below the machine: the stores of regions and their pages, the listing of code, and the terms
+//! with regions.
 #![tactic(auto)]
 
 #[cfg(test)]
@@ -9,6 +10,8 @@ mod calls;
 mod copied;
 #[cfg(test)]
 mod list_body;
+#[cfg(test)]
+mod listing;
 #[cfg(test)]
 mod region_terms;
 #[cfg(test)]

@@ -1,6 +1,6 @@
 -- Which answers fit a database command. A fault fits none: it ends the request.
-use Rattle.std.specs.Prelude.{◌≡◌, ◌⊎◌, ℕ, List, [], ◌∷◌, map}
-use Rattle.std.specs.Ordering.{nat_cmp}
+use Rattle.std.specs.Prelude.{◌≡◌, ◌⊎◌, ℕ, Bool, true, false, ◌&&◌, List, [], ◌∷◌, map, Option, Some, None}
+use Rattle.std.specs.Ordering.{nat_cmp, is_lt}
 use Rattle.std.specs.Cmp.Lexicographic.{slice_cmp}
 use Rattle.std.specs.List.Sorted.{IsStrictlySortedBy}
 use Rattle.sml_syntax.specs.declared.database.DbCmd.{DbCmd}
@@ -25,3 +25,31 @@ FitsCommand (cmd.One table key) answer =
     (answer ≡ ans.NoTable) ⊎ ((answer ≡ ans.Rows []) ⊎ ((value : List ℕ) × (answer ≡ ans.Rows ((value ∷ []) ∷ []))))
 FitsCommand (cmd.All table) answer =
     (answer ≡ ans.NoTable) ⊎ ((entries : List (List ℕ × List ℕ)) × KeysAscend entries × (answer ≡ ans.Rows (map row_of_entry entries)))
+
+-- one row of one text, or none
+abbrev pub is_one_text : List (List (List ℕ)) → Bool
+is_one_text [] = true
+is_one_text ((text ∷ []) ∷ []) = true
+is_one_text _ = false
+
+-- rows of two texts each, whose first ones ascend
+abbrev pub are_entries : Option (List ℕ) → List (List (List ℕ)) → Bool
+are_entries before [] = true
+are_entries None ((key ∷ value ∷ []) ∷ rows) = are_entries (Some key) rows
+are_entries (Some last) ((key ∷ value ∷ []) ∷ rows) = is_lt (slice_cmp nat_cmp last key) && are_entries (Some key) rows
+are_entries before _ = false
+
+-- the same as a test
+abbrev pub fits_command : DbCmd → DbAns → Bool
+fits_command (cmd.Create table) ans.Done = true
+fits_command (cmd.Create table) ans.TableStands = true
+fits_command (cmd.Insert table key value) ans.Done = true
+fits_command (cmd.Insert table key value) ans.NoTable = true
+fits_command (cmd.Insert table key value) ans.KeyStands = true
+fits_command (cmd.Delete table key) ans.Done = true
+fits_command (cmd.Delete table key) ans.NoTable = true
+fits_command (cmd.One table key) ans.NoTable = true
+fits_command (cmd.One table key) (ans.Rows rows) = is_one_text rows
+fits_command (cmd.All table) ans.NoTable = true
+fits_command (cmd.All table) (ans.Rows rows) = are_entries None rows
+fits_command _ _ = false

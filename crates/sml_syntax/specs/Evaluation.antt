@@ -1,77 +1,351 @@
--- The evaluation of expressions and declarations: a function of a height, by which it ends.
--- The Definition of Standard ML, section 6.7. A function is evaluated before its argument, and parts from left to right.
--- At height 0 the height has run out, and the parts of a form are evaluated at a height that is lower by one.
--- A greater height changes no outcome but that the height ran out.
--- There are the forms of the scripts that run so far; for any other no rule fits yet.
-use Rattle.std.specs.Prelude.{ℕ, zero, suc, List, [], ◌∷◌, ◌++◌, length, Option, Some, None, codes}
+-- The evaluation of expressions, patterns and declarations: a function of a height, by which it ends.
+-- The Definition of Standard ML, section 6.7, and appendix A for the derived forms. A function is evaluated before its argument, and
+-- parts from left to right; parts stop at the first outcome that gives nothing, and `handle` alone takes a packet.
+-- At height 0 the height has run out. The parts of a form, a function's body and the rules of a match are evaluated at a height that is
+-- lower by one, and so are the parts of values that are compared. A greater height changes no outcome but that the height ran out.
+-- One is counted for each expression, declaration and binding, each rule and node of a pattern that is tried, each application and each
+-- pair of values compared, when it is begun; and the words of the values made.
+use Rattle.std.specs.Prelude.{ℕ, zero, suc, ◌+◌, ◌-◌, ◌*◌, ◌==◌, ℤ, pos, negsuc, Bool, true, false, ◌&&◌, List, [], ◌∷◌, ◌++◌, length, map, take, slice_get, Option, Some, None, is_some, codes, if◌then◌else◌}
+use Rattle.std.specs.Str.{bytes_eq}
 use Rattle.sml_syntax.specs.declared.tree.Exp.{Exp}
 use Rattle.sml_syntax.specs.declared.tree.Dec.{Dec}
 use Rattle.sml_syntax.specs.declared.tree.Pat.{Pat}
-use Rattle.sml_syntax.specs.declared.tree.DecForm.TheOpen.{DecForm-F, ExpForm-F}
+use Rattle.sml_syntax.specs.declared.tree.Ty.{Ty}
+use Rattle.sml_syntax.specs.declared.tree.Rule.{Rule, out-Rule}
+use Rattle.sml_syntax.specs.declared.tree.Piece.{Piece, out-Piece}
+use Rattle.sml_syntax.specs.declared.tree.DecForm.{DecForm}
+use Rattle.sml_syntax.specs.declared.tree.ExpForm.{ExpForm}
+use Rattle.sml_syntax.specs.declared.tree.DecForm.TheOpen.{DecForm-F, ExpForm-F, Piece-F}
 use Rattle.sml_syntax.specs.declared.tree.PatForm.TheOpen.{PatForm-F}
 use Rattle.sml_syntax.specs.declared.value.Value.{Value}
-use Rattle.sml_syntax.specs.declared.value.Bound.{Bound, out-Bound}
+use Rattle.sml_syntax.specs.declared.value.Bound.{Bound, roll-Bound, out-Bound}
 use Rattle.sml_syntax.specs.declared.value.Bound.TheOpen.{Value-F, Bound-F}
-use Rattle.sml_syntax.specs.declared.value.Closure.{Closure}
+use Rattle.sml_syntax.specs.declared.value.Closure.{Closure, out-Closure}
 use Rattle.sml_syntax.specs.Layers.{ExpLayer, DecLayer, PatLayer, ValueLayer, form_of_exp, form_of_dec, form_of_pat, form_of_value}
-use Rattle.sml_syntax.specs.Values.{int_value, text_value, tuple_value, con_value, exn_value, text_size, Env, bound_of}
+use Rattle.sml_syntax.specs.Values.{int_value, char_value, text_value, unit_value, bool_value, tuple_value, con_value, applied_value, list_value, exn_value, packet_value, ref_value, function_value, text_size, Env, bound_of}
 use Rattle.sml_syntax.specs.Outcome.{EvalState, Outcome, Done, Raised, BadStatement, Over, Waits, then_do, counted}
-use Rattle.sml_syntax.specs.Primitives.{text_result, prim_result}
+use Rattle.sml_syntax.specs.FreeNames.{free_names}
+use Rattle.sml_syntax.specs.Primitives.{Comparing, thrown, text_result, prim_result, basis}
 
--- the evaluation of parts, in an environment
+-- ---- the evaluations of parts
+
+-- an expression, in an environment
 abbrev pub Evaluator : Type 0
 Evaluator = Env → EvalState → Exp → Outcome Value
+
+-- a pattern and a value: the names that it binds, or `None` where it doesn't fit
+abbrev pub Matcher : Type 0
+Matcher = Env → EvalState → Pat → Value → Outcome (Option Env)
+
+-- what is open around declarations: the `local`s whose hidden declarations are evaluated, with their shown ones, and those whose shown
+-- ones are, with the number of bindings before these; each with the environment outside and the declarations that follow it
+pub data Pending : Type 0 where
+  Shows : List Dec → Env → List Dec → Pending
+  Hides : ℕ → Env → List Dec → Pending
+
+-- what comes behind the bindings at hand: declarations, what is open around them, and the expressions of a `let`
+pub record Plan : Type 0 where
+  pub decs : List Dec
+  pub pending : List Pending
+  pub body : List Exp
+
+abbrev pub plan_of : List Dec → List Pending → List Exp → Plan
+plan_of decs pending body = record { decs = decs; pending = pending; body = body }
+
+-- the bindings that are left of a `val` that is evaluated in an outer environment, in the environment so far, and what comes behind them:
+-- the last environment, and the values of the expressions
+abbrev pub Scoping : Type 0
+Scoping = Env → Env → EvalState → List (Pat × Exp) → Plan → Outcome (Env × List Value)
+
+-- the evaluations at one height
+pub record Level : Type 0 where
+  pub exp : Evaluator
+  pub pat : Matcher
+  pub same : Comparing
+  pub scope : Scoping
+
+-- ---- names
+
+-- what a name stands for: what the program binds it to, or what the basis says
+abbrev pub or_basis : List ℕ → Option Bound → Option Bound
+or_basis name None = bound_of name basis
+or_basis name (Some b) = Some b
+
+abbrev pub meaning : List ℕ → Env → Option Bound
+meaning name env = or_basis name (bound_of name env)
+
+abbrev pub opened : Option Bound → Option (Bound-F Bound Value Closure)
+opened None = None
+opened (Some b) = Some (out-Bound b)
+
+-- what a name in an expression gives; an exception without argument is a packet of two words
+abbrev pub bound_result : List ℕ → Option (Bound-F Bound Value Closure) → EvalState → Outcome Value
+bound_result name None s = Waits s
+bound_result name (Some (Bound-F.Variable v)) s = Done v s
+bound_result name (Some (Bound-F.Constructor has_argument)) s = Done (con_value name) s
+bound_result name (Some (Bound-F.Exception number has_argument)) s = Done (exn_value number name) (counted (if has_argument then 0 else 2) s)
+
+abbrev pub is_constructor : Option (Bound-F Bound Value Closure) → Bool
+is_constructor (Some (Bound-F.Constructor has_argument)) = true
+is_constructor (Some (Bound-F.Exception number has_argument)) = true
+is_constructor _ = false
+
+-- what the program binds these names to
+abbrev pub held_one : List ℕ → Option Bound → Env → Env
+held_one name None env = env
+held_one name (Some b) env = (name, b) ∷ env
+
+abbrev pub held_names : List (List ℕ) → Env → Env
+held_names [] env = []
+held_names (name ∷ names) env = held_one name (bound_of name env) (held_names names env)
+
+-- how many of them are variables
+abbrev pub one_if_variable : Bound-F Bound Value Closure → ℕ
+one_if_variable (Bound-F.Variable v) = 1
+one_if_variable _ = 0
+
+abbrev pub variables_in : Env → ℕ
+variables_in [] = 0
+variables_in (e ∷ env) = one_if_variable (out-Bound e.1) + variables_in env
+
+-- the names free in rules that the program binds, and what to
+abbrev pub held_by : List (List ℕ) → Env → List Rule → Env
+held_by declared env rules = held_names (free_names (λ name. is_constructor (opened (meaning name env))) declared rules) env
+
+-- the words of a function: one, and one for each variable free in it
+abbrev pub function_words : List (List ℕ) → Env → List Rule → ℕ
+function_words declared env rules = 1 + variables_in (held_by declared env rules)
+
+-- ---- lists of parts
 
 -- the values of parts, from left to right
 abbrev pub each_value : Evaluator → Env → EvalState → List Exp → Outcome (List Value)
 each_value part env s [] = Done [] s
 each_value part env s (e ∷ es) = then_do (part env s e) (λ v s1. then_do (each_value part env s1 es) (λ vs s2. Done (v ∷ vs) s2))
 
--- what a name in an expression gives
-abbrev pub bound_result : List ℕ → Option (Bound-F Bound Value Closure) → EvalState → Outcome Value
-bound_result name None s = Waits s
-bound_result name (Some (Bound-F.Variable v)) s = Done v s
-bound_result name (Some (Bound-F.Constructor has_argument)) s = Done (con_value name) s
-bound_result name (Some (Bound-F.Exception number has_argument)) s = Done (exn_value number name) s
+-- the last of them
+abbrev pub last_value : List Value → EvalState → Outcome Value
+last_value [] s = Waits s
+last_value (v ∷ []) s = Done v s
+last_value (v ∷ w ∷ vs) s = last_value (w ∷ vs) s
 
-abbrev pub opened : Option Bound → Option (Bound-F Bound Value Closure)
-opened None = None
-opened (Some b) = Some (out-Bound b)
+-- a piece of a quotation: `QUOTE` of its text, or `ANTIQUOTE` of a value
+abbrev pub piece_value : Evaluator → Env → EvalState → Piece-F DecForm ExpForm Piece Dec Exp Rule → Outcome Value
+piece_value part env s (Piece-F.Plain bytes) = Done (applied_value (codes "QUOTE") (text_value bytes)) (counted (2 + text_size bytes) s)
+piece_value part env s (Piece-F.Anti e) = then_do (part env s e) (λ v s1. Done (applied_value (codes "ANTIQUOTE") v) (counted 2 s1))
+
+abbrev pub each_piece : Evaluator → Env → EvalState → List Piece → Outcome (List Value)
+each_piece part env s [] = Done [] s
+each_piece part env s (p ∷ ps) =
+    then_do (piece_value part env s (out-Piece p)) (λ v s1. then_do (each_piece part env s1 ps) (λ vs s2. Done (v ∷ vs) s2))
+
+-- a list made of values: four words for each
+abbrev pub list_result : List Value → EvalState → Outcome Value
+list_result vs s = Done (list_value vs) (counted (4 * length vs) s)
+
+-- ---- patterns
+
+abbrev pub same_int : ℤ → ℤ → Bool
+same_int (pos a) (pos b) = a == b
+same_int (negsuc a) (negsuc b) = a == b
+same_int _ _ = false
+
+-- nothing is bound, where it fits
+abbrev pub fits_if : Bool → EvalState → Outcome (Option Env)
+fits_if true s = Done (Some []) s
+fits_if false s = Done None s
+
+-- a name that is no constructor binds the value
+abbrev pub name_result : List ℕ → Option (Bound-F Bound Value Closure) → ValueLayer → Value → EvalState → Outcome (Option Env)
+name_result name (Some (Bound-F.Constructor has_argument)) (Value-F.Con other None) v s = fits_if (bytes_eq name other) s
+name_result name (Some (Bound-F.Constructor has_argument)) (Value-F.Con other (Some argument)) v s = fits_if false s
+name_result name (Some (Bound-F.Constructor has_argument)) _ v s = Waits s
+name_result name (Some (Bound-F.Exception number has_argument)) (Value-F.Exn other exn argument) v s = fits_if (number == other) s
+name_result name (Some (Bound-F.Exception number has_argument)) _ v s = Waits s
+name_result name _ form v s = Done (Some ((name, roll-Bound (Bound-F.Variable v)) ∷ [])) s
+
+-- the names bound so far, and those that what follows binds, as long as all fits
+abbrev pub joined : Env → Option Env → Option Env
+joined more None = None
+joined more (Some others) = Some (others ++ more)
+
+abbrev pub and_more : Option Env → (EvalState → Outcome (Option Env)) → EvalState → Outcome (Option Env)
+and_more None next s = Done None s
+and_more (Some more) next s = then_do (next s) (λ others s1. Done (joined more others) s1)
+
+-- patterns and values, from left to right
+abbrev pub each_match : Matcher → Env → EvalState → List Pat → List Value → Outcome (Option Env)
+each_match part env s [] [] = Done (Some []) s
+each_match part env s (p ∷ ps) (v ∷ vs) = then_do (part env s p v) (λ more s1. and_more more (λ s2. each_match part env s2 ps vs) s1)
+each_match part env s _ _ = Waits s
+
+-- the first item of a list, and then the others
+abbrev pub cell_match : Matcher → Env → EvalState → Pat → (EvalState → ValueLayer → Outcome (Option Env)) → ValueLayer → Outcome (Option Env)
+cell_match part env s p next (Value-F.Tuple (head ∷ tail ∷ [])) = then_do (part env s p head) (λ more s1. and_more more (λ s2. next s2 (form_of_value tail)) s1)
+cell_match part env s p next _ = Waits s
+
+-- the pattern `[p1, .., pn]`, by the form of the value
+abbrev pub list_match : Matcher → Env → EvalState → List Pat → ValueLayer → Outcome (Option Env)
+list_match part env s [] (Value-F.Con name None) = fits_if true s
+list_match part env s [] (Value-F.Con name (Some cell)) = fits_if false s
+list_match part env s (p ∷ ps) (Value-F.Con name None) = fits_if false s
+list_match part env s (p ∷ ps) (Value-F.Con name (Some cell)) = cell_match part env s p (λ s1 tail. list_match part env s1 ps tail) (form_of_value cell)
+list_match part env s _ _ = Waits s
+
+-- the argument of a constructor, where it is the pattern's; that of `ref` is what the reference holds at this moment
+abbrev pub argument_match : Matcher → Env → EvalState → Pat → Option Value → Outcome (Option Env)
+argument_match part env s p None = fits_if false s
+argument_match part env s p (Some v) = part env s p v
+
+abbrev pub held_match : Matcher → Env → EvalState → Pat → Option Value → Outcome (Option Env)
+held_match part env s p None = Waits s
+held_match part env s p (Some v) = part env s p v
+
+abbrev pub applied_match : Matcher → Env → EvalState → List ℕ → Pat → Option (Bound-F Bound Value Closure) → ValueLayer → Outcome (Option Env)
+applied_match part env s name p (Some (Bound-F.Constructor has_argument)) (Value-F.Con other argument) =
+    if bytes_eq name other then argument_match part env s p argument else fits_if false s
+applied_match part env s name p (Some (Bound-F.Constructor has_argument)) (Value-F.Ref number) = held_match part env s p (slice_get s.references number)
+applied_match part env s name p (Some (Bound-F.Exception number has_argument)) (Value-F.Exn other exn argument) =
+    if number == other then argument_match part env s p argument else fits_if false s
+applied_match part env s name p _ _ = Waits s
+
+-- a constant; a text of a pattern is made when it is tried
+abbrev pub constant_match : PatLayer → ValueLayer → EvalState → Outcome (Option Env)
+constant_match (PatForm-F.Int n) (Value-F.Int m) s = fits_if (same_int n m) s
+constant_match (PatForm-F.Char c) (Value-F.Char d) s = fits_if (c == d) s
+constant_match (PatForm-F.Str bytes) (Value-F.Str other) s = fits_if (bytes_eq bytes other) (counted (text_size bytes) s)
+constant_match _ _ s = Waits s
+
+abbrev pub tuple_match : Matcher → Env → EvalState → List Pat → ValueLayer → Outcome (Option Env)
+tuple_match part env s ps (Value-F.Tuple vs) = each_match part env s ps vs
+tuple_match part env s ps _ = Waits s
+
+-- a pattern by its form
+abbrev pub pat_result : Matcher → Env → EvalState → PatLayer → Value → Outcome (Option Env)
+pat_result part env s PatForm-F.Any v = fits_if true s
+pat_result part env s (PatForm-F.Int n) v = constant_match (PatForm-F.Int n) (form_of_value v) s
+pat_result part env s (PatForm-F.Char c) v = constant_match (PatForm-F.Char c) (form_of_value v) s
+pat_result part env s (PatForm-F.Str bytes) v = constant_match (PatForm-F.Str bytes) (form_of_value v) s
+pat_result part env s PatForm-F.Unit v = fits_if true s
+pat_result part env s (PatForm-F.Name name) v = name_result name (opened (meaning name env)) (form_of_value v) v s
+pat_result part env s (PatForm-F.Tuple ps) v = tuple_match part env s ps (form_of_value v)
+pat_result part env s (PatForm-F.List ps) v = list_match part env s ps (form_of_value v)
+pat_result part env s (PatForm-F.Con name p) v = applied_match part env s name p (opened (meaning name env)) (form_of_value v)
+pat_result part env s (PatForm-F.Typed p t) v = part env s p v
+
+-- ---- equality
+
+-- parts of values, from left to right, as long as they are equal
+abbrev pub and_same : Bool → (EvalState → Outcome Bool) → EvalState → Outcome Bool
+and_same true next s = next s
+and_same false next s = Done false s
+
+abbrev pub each_same : Comparing → List Value → List Value → EvalState → Outcome Bool
+each_same part [] [] s = Done true s
+each_same part (v ∷ vs) (w ∷ ws) s = then_do (part v w s) (λ b s1. and_same b (each_same part vs ws) s1)
+each_same part _ _ s = Waits s
+
+abbrev pub arguments_same : Comparing → Option Value → Option Value → EvalState → Outcome Bool
+arguments_same part None None s = Done true s
+arguments_same part (Some v) (Some w) s = part v w s
+arguments_same part _ _ s = Done false s
+
+-- two values by their forms: references are equal where they are one, and functions and packets have no equality
+abbrev pub same_result : Comparing → ValueLayer → ValueLayer → EvalState → Outcome Bool
+same_result part (Value-F.Int a) (Value-F.Int b) s = Done (same_int a b) s
+same_result part (Value-F.Char a) (Value-F.Char b) s = Done (a == b) s
+same_result part (Value-F.Str a) (Value-F.Str b) s = Done (bytes_eq a b) s
+same_result part Value-F.Unit Value-F.Unit s = Done true s
+same_result part (Value-F.Tuple vs) (Value-F.Tuple ws) s = each_same part vs ws s
+same_result part (Value-F.Con a v) (Value-F.Con b w) s = if bytes_eq a b then arguments_same part v w s else Done false s
+same_result part (Value-F.Ref a) (Value-F.Ref b) s = Done (a == b) s
+same_result part _ _ s = Waits s
+
+-- ---- matches and applications
+
+-- the rules of a match, from the first to the last: `otherwise` follows where none fits
+abbrev pub chosen : Level → Env → Exp → Option Env → (EvalState → Outcome Value) → EvalState → Outcome Value
+chosen low env body None otherwise s = otherwise s
+chosen low env body (Some more) otherwise s = low.exp (more ++ env) s body
+
+abbrev pub rules_result : Level → Env → EvalState → List Rule → Value → (EvalState → Outcome Value) → Outcome Value
+rules_result low env s [] v otherwise = otherwise s
+rules_result low env s (r ∷ rs) v otherwise =
+    then_do (low.pat env (counted 1 s) (out-Rule r).pat v) (λ more s1. chosen low env (out-Rule r).body more (λ s2. rules_result low env s2 rs v otherwise) s1)
+
+-- no rule fits: `Match`, a packet of two words
+abbrev pub match_failed : {A : Type 0} → EvalState → Outcome A
+match_failed s = thrown 0 (codes "Match") s
+
+-- the functions of a declaration, by their names
+abbrev pub group_bound : List (List ℕ × List Rule) → Env → List (List ℕ × List Rule) → Env
+group_bound [] env group = []
+group_bound (f ∷ fs) env group = (f.0, roll-Bound (Bound-F.Variable (function_value f.1 env group))) ∷ group_bound fs env group
+
+-- a constructor on its argument, of two words; `ref` makes a reference, of one
+abbrev pub constructed : List ℕ → Value → EvalState → Outcome Value
+constructed name v s =
+    if bytes_eq name (codes "ref")
+    then Done (ref_value (length s.references)) (counted 1 (record s { references = s.references ++ v ∷ [] }))
+    else Done (applied_value name v) (counted 2 s)
 
 -- a function applied to its argument
-abbrev pub application : ValueLayer → Value → EvalState → Outcome Value
-application (Value-F.Prim name []) v s = prim_result name v s
-application _ v s = Waits s
+abbrev pub application : Level → ValueLayer → Value → EvalState → Outcome Value
+application low (Value-F.Prim name arguments) v s = prim_result low.same name arguments v s
+application low (Value-F.Con name None) v s = constructed name v s
+application low (Value-F.Exn number name None) v s = Done (packet_value number name v) (counted 2 s)
+application low (Value-F.Fun closure) v s =
+    rules_result low (group_bound (out-Closure closure).group (out-Closure closure).env (out-Closure closure).group ++ (out-Closure closure).env) s (out-Closure closure).rules v match_failed
+application low _ v s = Waits s
 
--- an expression by its form, the parts by `part`
-abbrev pub exp_result : Evaluator → Env → EvalState → ExpLayer → Outcome Value
-exp_result part env s (ExpForm-F.Int n) = Done (int_value n) s
-exp_result part env s (ExpForm-F.Str bytes) = text_result bytes s
-exp_result part env s (ExpForm-F.Name name) = bound_result name (opened (bound_of name env)) s
-exp_result part env s (ExpForm-F.Tuple es) =
-    then_do (each_value part env s es) (λ vs s1. Done (tuple_value vs) (counted (length vs) s1))
-exp_result part env s (ExpForm-F.App f e) =
-    then_do (part env s f) (λ g s1. then_do (part env s1 e) (λ v s2. application (form_of_value g) v (counted 1 s2)))
-exp_result part env s _ = Waits s
+-- ---- expressions
 
--- an expression at a height; its rule is counted before its parts
-abbrev pub eval : ℕ → Evaluator
-eval zero env s e = Over s
-eval (suc n) env s e = exp_result (eval n) env (counted 1 s) (form_of_exp e)
+-- by a bool
+abbrev pub by_bool : ValueLayer → (EvalState → Outcome Value) → (EvalState → Outcome Value) → EvalState → Outcome Value
+by_bool (Value-F.Con name None) first second s = if bytes_eq name (codes "true") then first s else second s
+by_bool _ first second s = Waits s
 
--- the names that a pattern binds to the parts of a value, by the pattern's form; `None` where it doesn't fit
-abbrev pub pat_result : PatLayer → ValueLayer → Env → EvalState → Outcome (Option Env)
-pat_result PatForm-F.Any v env s = Done (Some []) s
-pat_result _ v env s = Waits s
+-- a packet is handled, and any other outcome stays
+abbrev pub handled : Outcome Value → (Value → EvalState → Outcome Value) → Outcome Value
+handled (Raised v s) f = f v s
+handled (Done v s) f = Done v s
+handled (BadStatement place s) f = BadStatement place s
+handled (Over s) f = Over s
+handled (Waits s) f = Waits s
 
--- a pattern at a height
-abbrev pub match_pat : ℕ → Pat → Value → Env → EvalState → Outcome (Option Env)
-match_pat zero p v env s = Over s
-match_pat (suc n) p v env s = pat_result (form_of_pat p) (form_of_value v) env (counted 1 s)
+-- an expression by its form, the parts at the lower level
+abbrev pub exp_result : Level → Env → EvalState → ExpLayer → Outcome Value
+exp_result low env s (ExpForm-F.Int n) = Done (int_value n) s
+exp_result low env s (ExpForm-F.Char c) = Done (char_value c) s
+exp_result low env s (ExpForm-F.Str bytes) = text_result bytes s
+exp_result low env s (ExpForm-F.Name name) = bound_result name (opened (meaning name env)) s
+exp_result low env s ExpForm-F.Unit = Done unit_value s
+exp_result low env s (ExpForm-F.Tuple es) =
+    then_do (each_value low.exp env s es) (λ vs s1. Done (tuple_value vs) (counted (length vs) s1))
+exp_result low env s (ExpForm-F.List es) = then_do (each_value low.exp env s es) list_result
+exp_result low env s (ExpForm-F.Seq es) = then_do (each_value low.exp env s es) last_value
+exp_result low env s (ExpForm-F.App f e) =
+    then_do (low.exp env s f) (λ g s1. then_do (low.exp env s1 e) (λ v s2. application low (form_of_value g) v (counted 1 s2)))
+exp_result low env s (ExpForm-F.Let ds es) = then_do (low.scope env env s [] (plan_of ds [] es)) (λ r s1. last_value r.1 s1)
+exp_result low env s (ExpForm-F.Fn rules) =
+    Done (function_value rules (held_by [] env rules) []) (counted (function_words [] env rules) s)
+exp_result low env s (ExpForm-F.Case e rules) = then_do (low.exp env s e) (λ v s1. rules_result low env s1 rules v match_failed)
+exp_result low env s (ExpForm-F.Handle e rules) = handled (low.exp env s e) (λ p s1. rules_result low env s1 rules p (λ s2. Raised p s2))
+exp_result low env s (ExpForm-F.Raise e) = then_do (low.exp env s e) (λ p s1. Raised p s1)
+exp_result low env s (ExpForm-F.If test first second) =
+    then_do (low.exp env s test) (λ v s1. by_bool (form_of_value v) (λ s2. low.exp env s2 first) (λ s2. low.exp env s2 second) s1)
+exp_result low env s (ExpForm-F.Both left right) =
+    then_do (low.exp env s left) (λ v s1. by_bool (form_of_value v) (λ s2. low.exp env s2 right) (λ s2. Done (bool_value false) s2) s1)
+exp_result low env s (ExpForm-F.Either left right) =
+    then_do (low.exp env s left) (λ v s1. by_bool (form_of_value v) (λ s2. Done (bool_value true) s2) (λ s2. low.exp env s2 right) s1)
+exp_result low env s (ExpForm-F.Quote pieces) = then_do (each_piece low.exp env s pieces) list_result
+exp_result low env s (ExpForm-F.Typed e t) = low.exp env s e
+
+-- ---- declarations
 
 -- the exception `Bind`, a packet of two words
 abbrev pub bind_failed : {A : Type 0} → EvalState → Outcome A
-bind_failed s = Raised (exn_value 1 (codes "Bind")) (counted 2 s)
+bind_failed s = thrown 1 (codes "Bind") s
 
 -- the names that a match binds, before those that are bound already
 abbrev pub bound_more : Env → Option Env → EvalState → Outcome Env
@@ -79,31 +353,128 @@ bound_more env None s = bind_failed s
 bound_more env (Some more) s = Done (more ++ env) s
 
 -- one binding: its expression where nothing of its own declaration is bound, then its pattern
-abbrev pub binding : ℕ → Env → Env → EvalState → Pat × Exp → Outcome Env
-binding n outer env s bind =
-    then_do (eval n outer s bind.1) (λ v s1. then_do (match_pat n bind.0 v outer s1) (λ more s2. bound_more env more s2))
+abbrev pub binding : Level → Env → Env → EvalState → Pat × Exp → Outcome Env
+binding low outer env s bind =
+    then_do (low.exp outer s bind.1) (λ v s1. then_do (low.pat outer s1 bind.0 v) (λ more s2. bound_more env more s2))
 
--- what follows the first binding of a declaration: in an outer environment and the one so far, the other bindings and declarations
-abbrev pub Following : Type 0
-Following = Env → Env → EvalState → List (Pat × Exp) → List Dec → Outcome Env
+-- a binding, and then what comes behind it: each binding uses up height for all that comes after it in its scope
+abbrev pub with_binding : Level → Env → Env → EvalState → Pat × Exp → List (Pat × Exp) → Plan → Outcome (Env × List Value)
+with_binding low outer env s bind bindings plan =
+    then_do (binding low outer env (counted 1 s) bind) (λ env1 s1. low.scope outer env1 s1 bindings plan)
 
--- a binding, and then the others of its declaration
-abbrev pub with_binding : ℕ → Following → Env → Env → EvalState → Pat × Exp → List (Pat × Exp) → List Dec → Outcome Env
-with_binding n next outer env s bind bindings decs = then_do (binding n outer env (counted 1 s) bind) (λ env1 s1. next outer env1 s1 bindings decs)
+-- the functions of a declaration hold what the names free in them all stand for
+abbrev pub all_rules : List (List ℕ × List Rule) → List Rule
+all_rules [] = []
+all_rules (f ∷ fs) = f.1 ++ all_rules fs
 
--- a declaration by its form, and then the others
-abbrev pub with_dec : ℕ → Following → Env → EvalState → DecLayer → List Dec → Outcome Env
-with_dec n next env s (DecForm-F.Val (bind ∷ bindings)) decs = with_binding n next env env s bind bindings decs
-with_dec n next env s _ decs = Waits s
+abbrev pub names_of : {A : Type 0} → List (List ℕ × A) → List (List ℕ)
+names_of rows = map (λ row. row.0) rows
 
--- The bindings that are left of a `val` that is evaluated in `outer`, and then the declarations that follow it.
--- Each binding uses up height for all that comes after it in its scope: that is evaluated at a height that is lower by one.
-abbrev pub bindings_result : ℕ → Following
-bindings_result n outer env s [] [] = Done env s
-bindings_result zero outer env s _ _ = Over s
-bindings_result (suc n) outer env s (bind ∷ bindings) decs = with_binding n (bindings_result n) outer env s bind bindings decs
-bindings_result (suc n) outer env s [] (dec ∷ decs) = with_dec n (bindings_result n) env (counted 1 s) (form_of_dec dec) decs
+abbrev pub functions_bound : List (List ℕ × List Rule) → Env → Env
+functions_bound fs env = group_bound fs (held_by (names_of fs) env (all_rules fs)) fs
+
+abbrev pub functions_words : List (List ℕ × List Rule) → List (List ℕ) → Env → ℕ
+functions_words [] declared env = 0
+functions_words (f ∷ fs) declared env = function_words declared env f.1 + functions_words fs declared env
+
+-- the constructors of datatypes
+abbrev pub constructors_of : List (List ℕ × Option Ty) → Env
+constructors_of cs = map (λ c. (c.0, roll-Bound (Bound-F.Constructor (is_some c.1)))) cs
+
+abbrev pub datatypes_bound : List (List (List ℕ) × List ℕ × List (List ℕ × Option Ty)) → Env
+datatypes_bound [] = []
+datatypes_bound (d ∷ ds) = constructors_of d.2 ++ datatypes_bound ds
+
+-- the declared exceptions have the numbers from 9 on, in the order of the text
+abbrev pub one_if_exception : Bound-F Bound Value Closure → ℕ
+one_if_exception (Bound-F.Exception number has_argument) = 1
+one_if_exception _ = 0
+
+abbrev pub exceptions_in : Env → ℕ
+exceptions_in [] = 0
+exceptions_in (e ∷ env) = one_if_exception (out-Bound e.1) + exceptions_in env
+
+abbrev pub exceptions_bound : List (List ℕ × Option Ty) → Env → Env
+exceptions_bound [] env = env
+exceptions_bound (e ∷ es) env = exceptions_bound es ((e.0, roll-Bound (Bound-F.Exception (9 + exceptions_in env) (is_some e.1))) ∷ env)
+
+-- a declaration by its form, and then what comes behind it, at a height that is lower by one: the further bindings of a `val` use up more
+abbrev pub with_dec : Level → Env → EvalState → DecLayer → Plan → Outcome (Env × List Value)
+with_dec low env s (DecForm-F.Val []) plan = Waits s
+with_dec low env s (DecForm-F.Val (bind ∷ bindings)) plan = with_binding low env env s bind bindings plan
+with_dec low env s (DecForm-F.ValRec fs) plan =
+    low.scope env (functions_bound fs env ++ env) (counted (functions_words fs (names_of fs) env) s) [] plan
+with_dec low env s (DecForm-F.Abbrev ts) plan = low.scope env env s [] plan
+with_dec low env s (DecForm-F.DataDef ds) plan = low.scope env (datatypes_bound ds ++ env) s [] plan
+with_dec low env s (DecForm-F.ExnDef es) plan = low.scope env (exceptions_bound es env) s [] plan
+with_dec low env s (DecForm-F.Local hidden shown) plan = low.scope env env s [] (plan_of hidden (Shows shown env plan.decs ∷ plan.pending) plan.body)
+
+-- what comes next: the first declaration that is left in its environment, with what comes behind it, or the end
+pub data Coming : Type 0 where
+  Comes : Env → Dec → Plan → Coming
+  Ends : Env → Coming
+
+-- the bindings that come before so many
+abbrev pub shown_of : ℕ → Env → Env
+shown_of count env = take (length env - count) env
+
+-- the declarations, or else what is open around them
+abbrev pub coming : Env → List Dec → List Pending → List Exp → Coming
+coming env (d ∷ ds) pending body = Comes env d (plan_of ds pending body)
+coming env [] [] body = Ends env
+coming env [] (Shows [] outer after ∷ pending) body = coming outer after pending body
+coming env [] (Shows (d ∷ ds) outer after ∷ pending) body = Comes env d (plan_of ds (Hides (length env) outer after ∷ pending) body)
+coming env [] (Hides count outer after ∷ pending) body = coming (shown_of count env ++ outer) after pending body
+
+-- what the next one gives: the values of the expressions where there is none
+abbrev pub with_coming : Evaluator → (Env → EvalState → DecLayer → Plan → Outcome (Env × List Value)) → EvalState → List Exp → Coming → Outcome (Env × List Value)
+with_coming here dec s body (Comes env d plan) = dec env (counted 1 s) (form_of_dec d) plan
+with_coming here dec s body (Ends env) = then_do (each_value here env s body) (λ vs s1. Done (env, vs) s1)
+
+-- what is left of a declaration, and what comes behind it; the expressions of a `let` come at the height that is left
+abbrev pub scope_result : Evaluator → Level → Scoping
+scope_result here low outer env s (bind ∷ bindings) plan = with_binding low outer env s bind bindings plan
+scope_result here low outer env s [] plan = with_coming here (with_dec low) s plan.body (coming env plan.decs plan.pending plan.body)
+
+-- ---- heights
+
+-- at height 0: all but an end has run out
+abbrev pub over_scope : Scoping
+over_scope outer env s (bind ∷ bindings) plan = Over s
+over_scope outer env s [] plan = with_coming (λ env1 s1 e. Over s1) (λ env1 s1 d plan1. Over s) s plan.body (coming env plan.decs plan.pending plan.body)
+
+abbrev pub nothing : Level
+nothing = record {
+  exp = λ env s e. Over s;
+  pat = λ env s p v. Over s;
+  same = λ v w s. Over s;
+  scope = over_scope;
+}
+
+-- at the height above another
+abbrev pub exp_above : Level → Evaluator
+exp_above low env s e = exp_result low env (counted 1 s) (form_of_exp e)
+
+abbrev pub above : Level → Level
+above low = record {
+  exp = exp_above low;
+  pat = λ env s p v. pat_result low.pat env (counted 1 s) (form_of_pat p) v;
+  same = λ v w s. same_result low.same (form_of_value v) (form_of_value w) (counted 1 s);
+  scope = scope_result (exp_above low) low;
+}
+
+abbrev pub level : ℕ → Level
+level zero = nothing
+level (suc n) = above (level n)
+
+-- an expression at a height
+abbrev pub eval : ℕ → Evaluator
+eval n = (level n).exp
+
+-- a pattern at a height
+abbrev pub match_pat : ℕ → Matcher
+match_pat n = (level n).pat
 
 -- the declarations of a list, from left to right
 abbrev pub eval_decs : ℕ → Env → EvalState → List Dec → Outcome Env
-eval_decs n env s decs = bindings_result n env env s [] decs
+eval_decs n env s decs = then_do ((level n).scope env env s [] (plan_of decs [] [])) (λ r s1. Done r.0 s1)

@@ -1,25 +1,62 @@
--- The primitives of the basis, each as what its application to an argument gives.
--- The Standard ML Basis Library; `Web` is of this project.
--- There are those of the scripts that run so far; the others come as further rows.
-use Rattle.std.specs.Prelude.{◌≡◌, ℕ, ◌+◌, ◌^◌, suc, ℤ, pos, negsuc, ◌*ℤ◌, Bool, nat_lt, List, [], ◌∷◌, ◌++◌, length, map, Option, Some, None, if◌then◌else◌, codes}
+-- The primitives of the basis, each as what its application to an argument gives, and what the names of the basis stand for.
+-- The Standard ML Basis Library; `Web` is of this project. The words of what a primitive makes are counted with it.
+use Rattle.std.specs.Prelude.{◌≡◌, ℕ, ◌+◌, ◌*◌, ◌^◌, suc, ℤ, pos, negsuc, ◌+ℤ◌, ◌-ℤ◌, ◌*ℤ◌, neg_ℤ, int_lt, int_le, Bool, true, false, not, nat_lt, ◌==◌, List, [], ◌∷◌, ◌++◌, length, map, set, slice_get, Option, Some, None, is_some, if◌then◌else◌, codes}
 use Rattle.std.specs.Option.{option_map_or}
+use Rattle.std.specs.List.{concat}
+use Rattle.std.specs.Ordering.{nat_cmp}
+use Rattle.std.specs.declared.cmp.Ordering.{Ordering}
+use Rattle.std.specs.declared.cmp.Ordering.TheVariants.{Less, Equal, Greater}
+use Rattle.std.specs.Cmp.Lexicographic.{slice_cmp}
 use Rattle.std.specs.Str.{bytes_eq}
 use Rattle.std.specs.Fmt.{decimal}
 use Rattle.sml_syntax.specs.declared.value.Value.{Value}
 use Rattle.sml_syntax.specs.declared.value.Bound.TheOpen.{Value-F, Bound-F}
 use Rattle.sml_syntax.specs.declared.value.Bound.{Bound, roll-Bound}
+use Rattle.sml_syntax.specs.declared.datum.Datum.{Datum}
+use Rattle.sml_syntax.specs.declared.datum.Datum.TheVariants as datum
+use Rattle.sml_syntax.specs.declared.datum.Desc.{Desc}
+use Rattle.sml_syntax.specs.declared.datum.Desc.TheVariants as desc
+use Rattle.sml_syntax.specs.declared.cache.CacheId.{CacheId}
+use Rattle.sml_syntax.specs.declared.cache.CacheOp.{CacheOp}
+use Rattle.sml_syntax.specs.declared.cache.CacheOp.TheVariants as op
+use Rattle.sml_syntax.specs.declared.cache.CacheAns.{CacheAns}
+use Rattle.sml_syntax.specs.declared.cache.CacheAns.TheVariants as told
+use Rattle.sml_syntax.specs.declared.database.WebCall.{WebCall}
+use Rattle.sml_syntax.specs.declared.database.WebCall.TheVariants as call
+use Rattle.sml_syntax.specs.declared.database.WebAns.{WebAns}
+use Rattle.sml_syntax.specs.declared.database.WebAns.TheVariants as answer
+use Rattle.sml_syntax.specs.declared.database.DbAns.{DbAns}
 use Rattle.sml_syntax.specs.Layers.{ValueLayer, form_of_value}
-use Rattle.sml_syntax.specs.Values.{int_value, text_value, unit_value, exn_value, prim_value, text_size, Env}
-use Rattle.sml_syntax.specs.Outcome.{EvalState, Outcome, Done, Raised, Waits, counted}
+use Rattle.sml_syntax.specs.Values.{int_value, char_value, text_value, unit_value, bool_value, con_value, none_value, some_value, list_value, exn_value, packet_value, prim_value, partial_value, ref_value, desc_value, cache_value, text_size, Env}
+use Rattle.sml_syntax.specs.DataValues.{texts_of, pieces_of, datum_of, value_of, words_of}
+use Rattle.sml_syntax.specs.Outcome.{EvalState, Outcome, Done, Raised, BadStatement, Waits, then_do, counted}
+use Rattle.sml_syntax.specs.BasisFunctions.{quotient, modulus, is_zero, byte_of, byte_at, part_at, number_front, is_listed, text_under, texts_under, is_content_type, is_status, is_cache_name, limit_of, bad_type, bad_status, bad_cache_name, bad_cache_kind, no_database, failure_of, rows_of}
+use Rattle.sml_syntax.specs.StatementReading.{Told, Command, Outside, statement_of}
+use Rattle.sml_syntax.specs.CallAnswers.{call_answer_fits, row_list}
+use Rattle.sml_syntax.specs.BasisTable.{BasisConstructor, BasisScheme, basis_constructors, basis_exceptions}
 
 -- an integer of 64 bits
 abbrev pub is_int : ℤ → Bool
 is_int (pos n) = nat_lt n (2 ^ 63)
 is_int (negsuc n) = nat_lt n (2 ^ 63)
 
--- the exception `Overflow`, a packet of two words
+-- ---- packets that primitives raise
+
+-- an exception without argument, a packet of two words
+abbrev pub thrown : {A : Type 0} → ℕ → List ℕ → EvalState → Outcome A
+thrown number name s = Raised (exn_value number name) (counted 2 s)
+
 abbrev pub overflow : {A : Type 0} → EvalState → Outcome A
-overflow s = Raised (exn_value 3 (codes "Overflow")) (counted 2 s)
+overflow s = thrown 3 (codes "Overflow") s
+
+abbrev pub subscript : {A : Type 0} → EvalState → Outcome A
+subscript s = thrown 4 (codes "Subscript") s
+
+-- `Fail` with a text: the packet and the text
+abbrev pub failure : {A : Type 0} → List ℕ → EvalState → Outcome A
+failure text s = Raised (packet_value 8 (codes "Fail") (text_value text)) (counted (2 + text_size text) s)
+
+-- ---- values made
 
 -- an integer, or `Overflow` where it has more than 64 bits
 abbrev pub int_result : ℤ → EvalState → Outcome Value
@@ -29,43 +66,329 @@ int_result n s = if is_int n then Done (int_value n) s else overflow s
 abbrev pub text_result : List ℕ → EvalState → Outcome Value
 text_result bytes s = Done (text_value bytes) (counted (text_size bytes) s)
 
+abbrev pub bool_result : Bool → EvalState → Outcome Value
+bool_result b s = Done (bool_value b) s
+
+-- a datum made
+abbrev pub datum_result : Datum → EvalState → Outcome Value
+datum_result d s = Done (value_of d) (counted (words_of d) s)
+
+-- the option of a text, and the list of texts
+abbrev pub optional_text : Option (List ℕ) → EvalState → Outcome Value
+optional_text None s = Done none_value s
+optional_text (Some text) s = Done (some_value (text_value text)) (counted (2 + text_size text) s)
+
+abbrev pub words_of_texts : List (List ℕ) → ℕ
+words_of_texts [] = 0
+words_of_texts (t ∷ ts) = 4 + text_size t + words_of_texts ts
+
+abbrev pub text_list_result : List (List ℕ) → EvalState → Outcome Value
+text_list_result texts s = Done (list_value (map text_value texts)) (counted (words_of_texts texts) s)
+
 -- an integer in decimal, with `~` for minus
 abbrev pub int_text : ℤ → List ℕ
 int_text (pos n) = decimal n
 int_text (negsuc n) = 126 ∷ decimal (suc n)
 
--- the two parts of an argument that is a pair
-abbrev pub of_pair : (ValueLayer → ValueLayer → EvalState → Outcome Value) → ValueLayer → EvalState → Outcome Value
-of_pair f (Value-F.Tuple (a ∷ b ∷ [])) s = f (form_of_value a) (form_of_value b) s
-of_pair f _ s = Waits s
+-- what is there, or an exception
+abbrev pub char_or : (EvalState → Outcome Value) → Option ℕ → EvalState → Outcome Value
+char_or otherwise None s = otherwise s
+char_or otherwise (Some byte) s = Done (char_value byte) s
 
--- `*` : int * int -> int
+abbrev pub text_or_subscript : Option (List ℕ) → EvalState → Outcome Value
+text_or_subscript None s = subscript s
+text_or_subscript (Some bytes) s = text_result bytes s
+
+-- ---- arguments
+
+-- a primitive of one argument by its form
+abbrev pub OfForm : Type 0
+OfForm = ValueLayer → EvalState → Outcome Value
+
+abbrev pub by_form : OfForm → Value → EvalState → Outcome Value
+by_form f v s = f (form_of_value v) s
+
+abbrev pub of_int : (ℤ → EvalState → Outcome Value) → OfForm
+of_int f (Value-F.Int n) s = f n s
+of_int f _ s = Waits s
+
+abbrev pub of_char : (ℕ → EvalState → Outcome Value) → OfForm
+of_char f (Value-F.Char c) s = f c s
+of_char f _ s = Waits s
+
+abbrev pub of_text : (List ℕ → EvalState → Outcome Value) → OfForm
+of_text f (Value-F.Str bytes) s = f bytes s
+of_text f _ s = Waits s
+
+abbrev pub of_ref : (ℕ → EvalState → Outcome Value) → OfForm
+of_ref f (Value-F.Ref number) s = f number s
+of_ref f _ s = Waits s
+
+abbrev pub of_desc : (Desc → EvalState → Outcome Value) → OfForm
+of_desc f (Value-F.Desc d) s = f d s
+of_desc f _ s = Waits s
+
+abbrev pub of_cache : (CacheId → EvalState → Outcome Value) → OfForm
+of_cache f (Value-F.Cache id) s = f id s
+of_cache f _ s = Waits s
+
+-- the parts of an argument that is a tuple
+abbrev pub of_parts : (Value → Value → EvalState → Outcome Value) → OfForm
+of_parts f (Value-F.Tuple (a ∷ b ∷ [])) s = f a b s
+of_parts f _ s = Waits s
+
+abbrev pub of_three : (Value → Value → Value → EvalState → Outcome Value) → OfForm
+of_three f (Value-F.Tuple (a ∷ b ∷ c ∷ [])) s = f a b c s
+of_three f _ s = Waits s
+
+abbrev pub of_four : (Value → Value → Value → Value → EvalState → Outcome Value) → OfForm
+of_four f (Value-F.Tuple (a ∷ b ∷ c ∷ d ∷ [])) s = f a b c d s
+of_four f _ s = Waits s
+
+-- the two parts of an argument that is a pair, by their forms
+abbrev pub of_pair : (ValueLayer → ValueLayer → EvalState → Outcome Value) → ValueLayer → EvalState → Outcome Value
+of_pair f v s = of_parts (λ a b s1. f (form_of_value a) (form_of_value b) s1) v s
+
+abbrev pub of_ints : (ℤ → ℤ → EvalState → Outcome Value) → ValueLayer → ValueLayer → EvalState → Outcome Value
+of_ints f (Value-F.Int a) (Value-F.Int b) s = f a b s
+of_ints f _ _ s = Waits s
+
+abbrev pub of_texts : (List ℕ → List ℕ → EvalState → Outcome Value) → ValueLayer → ValueLayer → EvalState → Outcome Value
+of_texts f (Value-F.Str a) (Value-F.Str b) s = f a b s
+of_texts f _ _ s = Waits s
+
+abbrev pub found : {A B : Type 0} → (A → EvalState → Outcome B) → Option A → EvalState → Outcome B
+found f None s = Waits s
+found f (Some x) s = f x s
+
+-- ---- integers, characters and texts
+
+-- `*` : int * int -> int, and so `+` and `-`
 abbrev pub times : ValueLayer → ValueLayer → EvalState → Outcome Value
-times (Value-F.Int a) (Value-F.Int b) s = int_result (a *ℤ b) s
-times _ _ s = Waits s
+times = of_ints (λ a b s. int_result (a *ℤ b) s)
+
+abbrev pub plus : ValueLayer → ValueLayer → EvalState → Outcome Value
+plus = of_ints (λ a b s. int_result (a +ℤ b) s)
+
+abbrev pub minus : ValueLayer → ValueLayer → EvalState → Outcome Value
+minus = of_ints (λ a b s. int_result (a -ℤ b) s)
+
+-- `div` and `mod` : int * int -> int
+abbrev pub by_divisor : (ℤ → ℤ → ℤ) → ValueLayer → ValueLayer → EvalState → Outcome Value
+by_divisor f = of_ints (λ a b s. if is_zero b then thrown 2 (codes "Div") s else int_result (f a b) s)
+
+-- `<`, `<=`, `>` and `>=` : int * int -> bool
+abbrev pub compared : (ℤ → ℤ → Bool) → ValueLayer → ValueLayer → EvalState → Outcome Value
+compared test = of_ints (λ a b s. bool_result (test a b) s)
 
 -- `^` : string * string -> string
 abbrev pub concatenation : ValueLayer → ValueLayer → EvalState → Outcome Value
-concatenation (Value-F.Str a) (Value-F.Str b) s = text_result (a ++ b) s
-concatenation _ _ s = Waits s
+concatenation = of_texts (λ a b s. text_result (a ++ b) s)
+
+-- `!` : 'a ref -> 'a
+abbrev pub contents : OfForm
+contents = of_ref (λ number s. found (λ v s1. Done v s1) (slice_get s.references number) s)
+
+-- `:=` : 'a ref * 'a -> unit
+abbrev pub assigned : ℕ → Value → EvalState → Outcome Value
+assigned number v s = if nat_lt number (length s.references) then Done unit_value (record s { references = set s.references number v }) else Waits s
+
+-- `chr` : int -> char, and `String.sub` : string * int -> char
+abbrev pub to_char : OfForm
+to_char = of_int (λ n s. char_or (thrown 5 (codes "Chr")) (byte_of n) s)
+
+abbrev pub sub : ValueLayer → ValueLayer → EvalState → Outcome Value
+sub (Value-F.Str bytes) (Value-F.Int i) s = char_or subscript (byte_at bytes i) s
+sub _ _ s = Waits s
+
+-- `substring` : string * int * int -> string
+abbrev pub cut : ValueLayer → ValueLayer → ValueLayer → EvalState → Outcome Value
+cut (Value-F.Str bytes) (Value-F.Int i) (Value-F.Int n) s = text_or_subscript (part_at bytes i n) s
+cut _ _ _ s = Waits s
+
+-- `String.compare` : string * string -> order
+abbrev pub order_value : Ordering → Value
+order_value Less = con_value (codes "LESS")
+order_value Equal = con_value (codes "EQUAL")
+order_value Greater = con_value (codes "GREATER")
 
 -- `Int.toString` : int -> string
-abbrev pub int_to_string : ValueLayer → EvalState → Outcome Value
-int_to_string (Value-F.Int n) s = text_result (int_text n) s
-int_to_string _ s = Waits s
+abbrev pub int_to_string : OfForm
+int_to_string = of_int (λ n s. text_result (int_text n) s)
+
+-- `Int.fromString` : string -> int option
+abbrev pub optional_int : Option ℤ → EvalState → Outcome Value
+optional_int None s = Done none_value s
+optional_int (Some n) s = if is_int n then Done (some_value (int_value n)) (counted 2 s) else overflow s
+
+-- ---- the reply and the form
 
 -- `Web.write` : string -> unit, which adds the text to the body
-abbrev pub web_write : ValueLayer → EvalState → Outcome Value
-web_write (Value-F.Str bytes) s = Done unit_value (record s { body = s.body ++ bytes })
-web_write _ s = Waits s
+abbrev pub web_write : OfForm
+web_write = of_text (λ bytes s. Done unit_value (record s { body = s.body ++ bytes }))
 
--- the table: each name and what its application gives
-abbrev pub primitives : List (List ℕ × (ValueLayer → EvalState → Outcome Value))
+abbrev pub set_type : List ℕ → EvalState → Outcome Value
+set_type bytes s = if is_content_type bytes then Done unit_value (record s { content_type = bytes }) else failure bad_type s
+
+abbrev pub set_status : ℤ → EvalState → Outcome Value
+set_status (pos n) s = if is_status (pos n) then Done unit_value (record s { status = n }) else failure bad_status s
+set_status (negsuc n) s = failure bad_status s
+
+-- ---- calls
+
+-- a call takes the next answer, if it is one with which the script goes on
+abbrev pub answered : WebCall → List WebAns → (WebAns → EvalState → Outcome Value) → EvalState → Outcome Value
+answered c [] next s = Waits s
+answered c (a ∷ answers) next s = if call_answer_fits c a then next a (record s { answers = answers }) else Waits s
+
+-- a call is made
+abbrev pub asked : WebCall → (WebAns → EvalState → Outcome Value) → EvalState → Outcome Value
+asked c next s = answered c s.answers next (record s { calls = s.calls ++ c ∷ [] })
+
+-- what the answer of a cache gives
+abbrev pub cache_answer_result : WebAns → EvalState → Outcome Value
+cache_answer_result (answer.Cache (told.Found d)) s = datum_result (datum.Opt (Some d)) s
+cache_answer_result (answer.Cache told.Absent) s = Done none_value s
+cache_answer_result (answer.Cache (told.Fresh fresh)) s = bool_result fresh s
+cache_answer_result (answer.Cache told.Flushed) s = Done unit_value s
+cache_answer_result _ s = Waits s
+
+abbrev pub on_cache : CacheId → CacheOp → EvalState → Outcome Value
+on_cache id o s = asked (call.Cache (record { id = id; op = o })) cache_answer_result s
+
+-- an argument of a kind: `NONE`, or `SOME` of an integer
+abbrev pub int_by : ValueLayer → Option (Option ℤ)
+int_by (Value-F.Int n) = Some (Some n)
+int_by _ = None
+
+abbrev pub limit_by : ValueLayer → Option (Option ℤ)
+limit_by (Value-F.Con name None) = Some None
+limit_by (Value-F.Con name (Some v)) = int_by (form_of_value v)
+limit_by _ = None
+
+-- a cache of six words, where its limits aren't negative
+abbrev pub cache_with : List ℕ → Desc → Desc → Bool → Option (Option ℕ) → Option (Option ℕ) → EvalState → Outcome Value
+cache_with name key value used (Some time) (Some size) s =
+    Done (cache_value (record { name = name; key = key; value = value; kind = record { used = used; time = time; size = size } })) (counted 6 s)
+cache_with name key value used _ _ s = failure bad_cache_kind s
+
+abbrev pub cache_limited : List ℕ → Desc → Desc → Bool → ValueLayer → EvalState → Outcome Value
+cache_limited name key value used (Value-F.Tuple (time ∷ size ∷ [])) s =
+    found (λ t s1. found (λ z s2. cache_with name key value used (limit_of t) (limit_of z) s2) (limit_by (form_of_value size)) s1) (limit_by (form_of_value time)) s
+cache_limited name key value used _ s = Waits s
+
+-- the kind is `Web.Cache.WhileUsed` or `Web.Cache.TimeOut` of time and size
+abbrev pub cache_of_kind : List ℕ → Desc → Desc → ValueLayer → EvalState → Outcome Value
+cache_of_kind name key value (Value-F.Con kind (Some limits)) s =
+    cache_limited name key value (bytes_eq kind (codes "Web.Cache.WhileUsed")) (form_of_value limits) s
+cache_of_kind name key value _ s = Waits s
+
+-- `Web.Cache.get` : 'a ty * 'b ty * string * kind -> ('a, 'b) cache; its name is looked at before its kind
+abbrev pub cache_get : ValueLayer → ValueLayer → ValueLayer → ValueLayer → EvalState → Outcome Value
+cache_get (Value-F.Desc key) (Value-F.Desc value) (Value-F.Str name) kind s =
+    if is_cache_name name then cache_of_kind name key value kind s else failure bad_cache_name s
+cache_get _ _ _ kind s = Waits s
+
+-- `Web.Cache.lookup` : ('a, 'b) cache -> 'a -> 'b option
+abbrev pub cache_lookup : Value → Value → EvalState → Outcome Value
+cache_lookup c k s = by_form (of_cache (λ id s1. found (λ key s2. on_cache id (op.Look key) s2) (datum_of id.key k) s1)) c s
+
+-- `Web.Cache.insert` : ('a, 'b) cache * 'a * 'b -> bool
+abbrev pub cache_insert : Value → Value → Value → EvalState → Outcome Value
+cache_insert c k v s =
+    by_form (of_cache (λ id s1. found (λ key s2. found (λ d s3. on_cache id (op.Put key d) s3) (datum_of id.value v) s2) (datum_of id.key k) s1)) c s
+
+-- what the answer of a database gives: its rows or nothing, or `Fail`
+abbrev pub unless_failed : Option (List ℕ) → (EvalState → Outcome Value) → EvalState → Outcome Value
+unless_failed None next s = next s
+unless_failed (Some text) next s = failure text s
+
+abbrev pub dml_result : WebAns → EvalState → Outcome Value
+dml_result (answer.Db a) s = unless_failed (failure_of a) (Done unit_value) s
+dml_result (answer.Cache a) s = Waits s
+
+abbrev pub rows_result : WebAns → EvalState → Outcome Value
+rows_result (answer.Db a) s = unless_failed (failure_of a) (datum_result (row_list (rows_of a))) s
+rows_result (answer.Cache a) s = Waits s
+
+abbrev pub on_database : List ℕ → Told → (WebAns → EvalState → Outcome Value) → EvalState → Outcome Value
+on_database name (Command command) next s = asked (call.Db name command) next s
+on_database name (Outside place) next s = BadStatement place s
+
+-- `Web.Db.dml` and `Web.Db.rows` : string * string frag list -> ..; the database's name is looked at before the statement
+abbrev pub database : (WebAns → EvalState → Outcome Value) → Value → Value → EvalState → Outcome Value
+database next n pieces s =
+    by_form (of_text (λ name s1.
+    if is_listed name s1.databases
+    then found (λ texts s2. on_database name (statement_of (concat texts)) next s2) (pieces_of pieces) s1
+    else failure no_database s1)) n s
+
+-- ---- the table
+
+-- what stands in a row: a value, a function of one argument or of several, one after the other, or a test of equality, which
+-- gives true where the two are equal as this says
+pub data Row : Type 0 where
+  Constant : Value → Row
+  First : (Value → EvalState → Outcome Value) → Row
+  Second : (Value → Value → EvalState → Outcome Value) → Row
+  Third : (Value → Value → Value → EvalState → Outcome Value) → Row
+  Same : Bool → Row
+
+abbrev pub one : OfForm → Row
+one f = First (by_form f)
+
+abbrev pub pair : (ValueLayer → ValueLayer → EvalState → Outcome Value) → Row
+pair f = one (of_pair f)
+
+-- each name and what its application gives; `ref` is a constructor
+abbrev pub primitives : List (List ℕ × Row)
 primitives =
-    (codes "*", of_pair times)
-    ∷ (codes "^", of_pair concatenation)
-    ∷ (codes "Int.toString", int_to_string)
-    ∷ (codes "Web.write", web_write)
+    (codes "*", pair times)
+    ∷ (codes "^", pair concatenation)
+    ∷ (codes "Int.toString", one int_to_string)
+    ∷ (codes "Web.write", one web_write)
+    ∷ (codes "+", pair plus)
+    ∷ (codes "-", pair minus)
+    ∷ (codes "div", pair (by_divisor quotient))
+    ∷ (codes "mod", pair (by_divisor modulus))
+    ∷ (codes "~", one (of_int (λ n s. int_result (neg_ℤ n) s)))
+    ∷ (codes "<", pair (compared int_lt))
+    ∷ (codes "<=", pair (compared int_le))
+    ∷ (codes ">", pair (compared (λ a b. int_lt b a)))
+    ∷ (codes ">=", pair (compared (λ a b. int_le b a)))
+    ∷ (codes "=", Same true)
+    ∷ (codes "<>", Same false)
+    ∷ (codes "!", one contents)
+    ∷ (codes ":=", one (of_parts (λ r v s. by_form (of_ref (λ number s1. assigned number v s1)) r s)))
+    ∷ (codes "ord", one (of_char (λ c s. Done (int_value (pos c)) s)))
+    ∷ (codes "chr", one to_char)
+    ∷ (codes "size", one (of_text (λ bytes s. Done (int_value (pos (length bytes))) s)))
+    ∷ (codes "str", one (of_char (λ c s. text_result (c ∷ []) s)))
+    ∷ (codes "String.sub", pair sub)
+    ∷ (codes "substring", one (of_three (λ a b c s. cut (form_of_value a) (form_of_value b) (form_of_value c) s)))
+    ∷ (codes "concat", First (λ v s. found (λ texts s1. text_result (concat texts) s1) (texts_of v) s))
+    ∷ (codes "String.compare", pair (of_texts (λ a b s. Done (order_value (slice_cmp nat_cmp a b)) s)))
+    ∷ (codes "Int.fromString", one (of_text (λ bytes s. optional_int (number_front bytes) s)))
+    ∷ (codes "Web.setType", one (of_text set_type))
+    ∷ (codes "Web.setStatus", one (of_int set_status))
+    ∷ (codes "Web.formvar", one (of_text (λ name s. optional_text (text_under name s.form) s)))
+    ∷ (codes "Web.formvars", one (of_text (λ name s. text_list_result (texts_under name s.form) s)))
+    ∷ (codes "Web.Cache.Int", Constant (desc_value desc.Int))
+    ∷ (codes "Web.Cache.Bool", Constant (desc_value desc.Bool))
+    ∷ (codes "Web.Cache.Char", Constant (desc_value desc.Char))
+    ∷ (codes "Web.Cache.String", Constant (desc_value desc.Str))
+    ∷ (codes "Web.Cache.Unit", Constant (desc_value desc.Unit))
+    ∷ (codes "Web.Cache.Pair", Second (λ a b s. by_form (of_desc (λ d. by_form (of_desc (λ e s2. Done (desc_value (desc.Pair d e)) s2)) b)) a s))
+    ∷ (codes "Web.Cache.Triple", Third (λ a b c s.
+        by_form (of_desc (λ d. by_form (of_desc (λ e. by_form (of_desc (λ f s3. Done (desc_value (desc.Triple d e f)) s3)) c)) b)) a s))
+    ∷ (codes "Web.Cache.Option", one (of_desc (λ d s. Done (desc_value (desc.Opt d)) s)))
+    ∷ (codes "Web.Cache.List", one (of_desc (λ d s. Done (desc_value (desc.List d)) s)))
+    ∷ (codes "Web.Cache.get", one (of_four (λ a b c d s. cache_get (form_of_value a) (form_of_value b) (form_of_value c) (form_of_value d) s)))
+    ∷ (codes "Web.Cache.lookup", Second cache_lookup)
+    ∷ (codes "Web.Cache.insert", one (of_three cache_insert))
+    ∷ (codes "Web.Cache.flush", one (of_cache (λ id s. on_cache id op.Flush s)))
+    ∷ (codes "Web.Db.dml", one (of_parts (database dml_result)))
+    ∷ (codes "Web.Db.rows", one (of_parts (database rows_result)))
     ∷ []
 
 -- the row of a name
@@ -73,10 +396,46 @@ abbrev pub row_of : {A : Type 0} → List ℕ → List (List ℕ × A) → Optio
 row_of name [] = None
 row_of name (row ∷ rows) = if bytes_eq row.0 name then Some row.1 else row_of name rows
 
--- a primitive applied to its argument
-abbrev pub prim_result : List ℕ → Value → EvalState → Outcome Value
-prim_result name v s = option_map_or (λ f. f (form_of_value v) s) (row_of name primitives) (Waits s)
+-- how two values are compared
+abbrev pub Comparing : Type 0
+Comparing = Value → Value → EvalState → Outcome Bool
 
--- what the names of the basis stand for
+-- a primitive that holds an argument more: one word, and one for each argument
+abbrev pub held : List ℕ → List Value → EvalState → Outcome Value
+held name arguments s = Done (partial_value name arguments) (counted (1 + length arguments) s)
+
+abbrev pub equality : Comparing → Bool → OfForm
+equality same wanted (Value-F.Tuple (a ∷ b ∷ [])) s = then_do (same a b s) (λ b s1. bool_result (if wanted then b else not b) s1)
+equality same wanted _ s = Waits s
+
+-- a row's function with the arguments so far, applied to one more
+abbrev pub row_result : Comparing → List ℕ → Row → List Value → Value → EvalState → Outcome Value
+row_result same name (First f) [] v s = f v s
+row_result same name (Second f) [] v s = held name (v ∷ []) s
+row_result same name (Second f) (a ∷ []) v s = f a v s
+row_result same name (Third f) [] v s = held name (v ∷ []) s
+row_result same name (Third f) (a ∷ []) v s = held name (a ∷ v ∷ []) s
+row_result same name (Third f) (a ∷ b ∷ []) v s = f a b v s
+row_result same name (Same wanted) [] v s = equality same wanted (form_of_value v) s
+row_result same name _ _ v s = Waits s
+
+-- a primitive with the arguments so far, applied to one more
+abbrev pub prim_result : Comparing → List ℕ → List Value → Value → EvalState → Outcome Value
+prim_result same name arguments v s = option_map_or (λ row. row_result same name row arguments v s) (row_of name primitives) (Waits s)
+
+-- ---- what the names of the basis stand for
+
+abbrev pub row_value : List ℕ → Row → Value
+row_value name (Constant v) = v
+row_value name _ = prim_value name
+
+-- the exceptions have their numbers in the order of the table
+abbrev pub exceptions_from : ℕ → List (List ℕ × Option BasisScheme) → Env
+exceptions_from n [] = []
+exceptions_from n (row ∷ rows) = (row.0, roll-Bound (Bound-F.Exception n (is_some row.1))) ∷ exceptions_from (n + 1) rows
+
 abbrev pub basis : Env
-basis = map (λ row. (row.0, roll-Bound (Bound-F.Variable (prim_value row.0)))) primitives
+basis =
+    map (λ row. (row.0, roll-Bound (Bound-F.Variable (row_value row.0 row.1)))) primitives
+    ++ (map (λ (row : BasisConstructor). (row.name, roll-Bound (Bound-F.Constructor (is_some row.argument)))) basis_constructors
+    ++ exceptions_from 0 basis_exceptions)

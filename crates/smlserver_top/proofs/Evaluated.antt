@@ -15,8 +15,8 @@ use Rattle.sml_syntax.specs.declared.value.Bound.TheOpen.{Value-F, Bound-F}
 use Rattle.sml_syntax.specs.Layers.{ExpLayer, ValueLayer, form_of_exp, form_of_dec, form_of_pat, form_of_value}
 use Rattle.sml_syntax.specs.Values.{int_value, text_value, tuple_value, unit_value, prim_value, text_size, bound_of}
 use Rattle.sml_syntax.specs.Outcome.{EvalState, Outcome, Done, then_do, counted}
-use Rattle.sml_syntax.specs.Primitives.{of_pair, times, concatenation, int_to_string, web_write, int_result, prim_result, basis}
-use Rattle.sml_syntax.specs.Evaluation.{eval, each_value, exp_result, bound_result, opened, application, match_pat, pat_result, binding, bound_more, eval_decs, bindings_result, with_dec}
+use Rattle.sml_syntax.specs.Primitives.{Comparing, of_pair, times, concatenation, int_to_string, web_write, int_result, prim_result, basis}
+use Rattle.sml_syntax.specs.Evaluation.{eval, level, plan_of, each_value, exp_result, bound_result, opened, application, pat_result, binding, bound_more, eval_decs, with_dec}
 use Rattle.sml_syntax.specs.Page.{PageOf, Finished, EndsAs, start_state, html_type}
 use Rattle.smlserver_top.specs.declared.part.Part.{Part}
 use Rattle.smlserver_top.specs.declared.part.Part.TheVariants.{Plain}
@@ -35,14 +35,14 @@ counted_none s = ap (λ k. record s { count = k }) (let e : s.count ≡ s.count 
 pub record Yields (e : Exp) (v : Value) : Type 0 where
   height : ℕ
   cost : ℕ
-  gives : (n : ℕ) (s : EvalState) → height ≤ n → eval n basis s e ≡ Done v (counted cost s)
+  gives : (n : ℕ) (s : EvalState) → height ≤ n → eval n [] s e ≡ Done v (counted cost s)
 
-form_gives : (e : Exp) (form : ExpLayer) (v : Value) (h c : ℕ) → form_of_exp e ≡ form → ((n : ℕ) (s : EvalState) → h ≤ n → exp_result (eval n) basis s form ≡ Done v (counted c s)) → (n : ℕ) (s : EvalState) → suc h ≤ n → eval n basis s e ≡ Done v (counted (1 + c) s)
+form_gives : (e : Exp) (form : ExpLayer) (v : Value) (h c : ℕ) → form_of_exp e ≡ form → ((n : ℕ) (s : EvalState) → h ≤ n → exp_result (level n) [] s form ≡ Done v (counted c s)) → (n : ℕ) (s : EvalState) → suc h ≤ n → eval n [] s e ≡ Done v (counted (1 + c) s)
 form_gives e form v h c f k zero s l = absurd (omega (arith, l))
 form_gives e form v h c f k (suc n) s l =
-    ap (exp_result (eval n) basis (counted 1 s)) f ∙ k n (counted 1 s) (omega (arith, l)) ∙ ap (Done v) (counted_twice 1 c s)
+    ap (exp_result (level n) [] (counted 1 s)) f ∙ k n (counted 1 s) (omega (arith, l)) ∙ ap (Done v) (counted_twice 1 c s)
 
-by_form : (e : Exp) (form : ExpLayer) (v : Value) (h c : ℕ) → form_of_exp e ≡ form → ((n : ℕ) (s : EvalState) → h ≤ n → exp_result (eval n) basis s form ≡ Done v (counted c s)) → Yields e v
+by_form : (e : Exp) (form : ExpLayer) (v : Value) (h c : ℕ) → form_of_exp e ≡ form → ((n : ℕ) (s : EvalState) → h ≤ n → exp_result (level n) [] s form ≡ Done v (counted c s)) → Yields e v
 by_form e form v h c f k = record { height = suc h; cost = 1 + c; gives = form_gives e form v h c f k }
 
 int_yields : (e : Exp) (n : ℤ) → form_of_exp e ≡ ExpForm-F.Int n → Yields e (int_value n)
@@ -56,11 +56,11 @@ name_yields : (f : Exp) (name : List ℕ) → form_of_exp f ≡ ExpForm-F.Name n
 name_yields f name i e = by_form f (ExpForm-F.Name name) (prim_value name) 0 0 i
     (λ m s l. ap (λ o. bound_result name (opened o) s) e ∙ ap (λ b. bound_result name (Some b) s) (out-roll-Bound (Bound-F.Variable (prim_value name))) ∙ ap (Done (prim_value name)) (counted_none s))
 
-pair_gives : (a b : Exp) (x y : Value) (ca cb : ℕ) (n : ℕ) (s : EvalState) → eval n basis s a ≡ Done x (counted ca s) → eval n basis (counted ca s) b ≡ Done y (counted cb (counted ca s))
-    → each_value (eval n) basis s (a ∷ b ∷ []) ≡ Done (x ∷ y ∷ []) (counted cb (counted ca s))
+pair_gives : (a b : Exp) (x y : Value) (ca cb : ℕ) (n : ℕ) (s : EvalState) → eval n [] s a ≡ Done x (counted ca s) → eval n [] (counted ca s) b ≡ Done y (counted cb (counted ca s))
+    → each_value (eval n) [] s (a ∷ b ∷ []) ≡ Done (x ∷ y ∷ []) (counted cb (counted ca s))
 pair_gives a b x y ca cb n s ea eb =
-    ap (λ o. then_do o (λ v s1. then_do (each_value (eval n) basis s1 (b ∷ [])) (λ vs s2. Done (v ∷ vs) s2))) ea
-    ∙ ap (λ o. then_do (then_do o (λ w s1. then_do (each_value (eval n) basis s1 []) (λ ws s2. Done (w ∷ ws) s2))) (λ vs s2. Done (x ∷ vs) s2)) eb
+    ap (λ o. then_do o (λ v s1. then_do (each_value (eval n) [] s1 (b ∷ [])) (λ vs s2. Done (v ∷ vs) s2))) ea
+    ∙ ap (λ o. then_do (then_do o (λ w s1. then_do (each_value (eval n) [] s1 []) (λ ws s2. Done (w ∷ ws) s2))) (λ vs s2. Done (x ∷ vs) s2)) eb
 
 pair_yields : (pair a b : Exp) (x y : Value) → form_of_exp pair ≡ ExpForm-F.Tuple (a ∷ b ∷ []) → Yields a x → Yields b y → Yields pair (tuple_value (x ∷ y ∷ []))
 pair_yields pair a b x y f ya yb = by_form pair (ExpForm-F.Tuple (a ∷ b ∷ [])) (tuple_value (x ∷ y ∷ [])) (ya.height + yb.height) (ya.cost + yb.cost + 2) f
@@ -69,13 +69,13 @@ pair_yields pair a b x y f ya yb = by_form pair (ExpForm-F.Tuple (a ∷ b ∷ []
     ∙ ap (Done (tuple_value (x ∷ y ∷ []))) (ap (counted 2) (counted_twice ya.cost yb.cost s) ∙ counted_twice (ya.cost + yb.cost) 2 s))
 
 -- a primitive applied, where the value of its row is known at each state
-app_yields : (name : List ℕ) (whole f e : Exp) (v w : Value) (c : ℕ) → form_of_exp whole ≡ ExpForm-F.App f e → Yields f (prim_value name) → Yields e v → ((s : EvalState) → prim_result name v s ≡ Done w (counted c s)) → Yields whole w
+app_yields : (name : List ℕ) (whole f e : Exp) (v w : Value) (c : ℕ) → form_of_exp whole ≡ ExpForm-F.App f e → Yields f (prim_value name) → Yields e v → ((same : Comparing) (s : EvalState) → prim_result same name [] v s ≡ Done w (counted c s)) → Yields whole w
 app_yields name whole f e v w c i yf ye p = by_form whole (ExpForm-F.App f e) w (yf.height + ye.height) (yf.cost + ye.cost + 1 + c) i
     (λ n s l.
-    ap (λ o. then_do o (λ g s1. then_do (eval n basis s1 e) (λ u s2. application (form_of_value g) u (counted 1 s2)))) (yf.gives n s (omega (arith, l)))
-    ∙ ap (λ o. then_do o (λ u s2. application (form_of_value (prim_value name)) u (counted 1 s2))) (ye.gives n (counted yf.cost s) (omega (arith, l)))
-    ∙ ap (λ g. application g v (counted 1 (counted ye.cost (counted yf.cost s)))) (out-roll-Value (Value-F.Prim name []))
-    ∙ p (counted 1 (counted ye.cost (counted yf.cost s)))
+    ap (λ o. then_do o (λ g s1. then_do (eval n [] s1 e) (λ u s2. application (level n) (form_of_value g) u (counted 1 s2)))) (yf.gives n s (omega (arith, l)))
+    ∙ ap (λ o. then_do o (λ u s2. application (level n) (form_of_value (prim_value name)) u (counted 1 s2))) (ye.gives n (counted yf.cost s) (omega (arith, l)))
+    ∙ ap (λ g. application (level n) g v (counted 1 (counted ye.cost (counted yf.cost s)))) (out-roll-Value (Value-F.Prim name []))
+    ∙ p (level n).same (counted 1 (counted ye.cost (counted yf.cost s)))
     ∙ ap (Done w) (ap (counted c) (ap (counted 1) (counted_twice yf.cost ye.cost s) ∙ counted_twice (yf.cost + ye.cost) 1 s) ∙ counted_twice (yf.cost + ye.cost + 1) c s))
 
 -- the two parts of a pair, opened
@@ -85,26 +85,26 @@ pair_opens f a b s =
     ∙ ap (λ x. f x (out-Value (roll-Value b)) s) (out-roll-Value a)
     ∙ ap (λ y. f a y s) (out-roll-Value b)
 
-times_result : (m n : ℕ) → m * n < 2 ^ 63 → (s : EvalState) → prim_result (codes "*") (tuple_value (int_value (pos m) ∷ int_value (pos n) ∷ [])) s ≡ Done (int_value (pos (m * n))) (counted 0 s)
-times_result m n l s =
+times_result : (m n : ℕ) → m * n < 2 ^ 63 → (same : Comparing) (s : EvalState) → prim_result same (codes "*") [] (tuple_value (int_value (pos m) ∷ int_value (pos n) ∷ [])) s ≡ Done (int_value (pos (m * n))) (counted 0 s)
+times_result m n l same s =
     let fits : nat_lt (m * n) (2 ^ 63) ≡ true = grind (arith, nat_tests) in
     pair_opens times (Value-F.Int (pos m)) (Value-F.Int (pos n)) s
     ∙ ap (λ b. if b then Done (int_value (pos (m * n))) s else int_result (pos (2 ^ 63)) s) fits
     ∙ ap (Done (int_value (pos (m * n)))) (counted_none s)
 
-concatenation_result : (a b : List ℕ) (s : EvalState) → prim_result (codes "^") (tuple_value (text_value a ∷ text_value b ∷ [])) s ≡ Done (text_value (a ++ b)) (counted (text_size (a ++ b)) s)
-concatenation_result a b s = pair_opens concatenation (Value-F.Str a) (Value-F.Str b) s
+concatenation_result : (a b : List ℕ) (same : Comparing) (s : EvalState) → prim_result same (codes "^") [] (tuple_value (text_value a ∷ text_value b ∷ [])) s ≡ Done (text_value (a ++ b)) (counted (text_size (a ++ b)) s)
+concatenation_result a b same s = pair_opens concatenation (Value-F.Str a) (Value-F.Str b) s
 
-to_string_result : (n : ℕ) (s : EvalState) → prim_result (codes "Int.toString") (int_value (pos n)) s ≡ Done (text_value (decimal n)) (counted (text_size (decimal n)) s)
-to_string_result n s = ap (λ v. int_to_string v s) (out-roll-Value (Value-F.Int (pos n)))
+to_string_result : (n : ℕ) (same : Comparing) (s : EvalState) → prim_result same (codes "Int.toString") [] (int_value (pos n)) s ≡ Done (text_value (decimal n)) (counted (text_size (decimal n)) s)
+to_string_result n same s = ap (λ v. int_to_string v s) (out-roll-Value (Value-F.Int (pos n)))
 
 -- a primitive by its name, applied where the expression applies it
-applied_yields : (name : List ℕ) (e argument : Exp) (v w : Value) (c : ℕ) → argument_of name e ≡ Some argument → bound_of name basis ≡ Some (roll-Bound (Bound-F.Variable (prim_value name))) → Yields argument v → ((s : EvalState) → prim_result name v s ≡ Done w (counted c s)) → Yields e w
+applied_yields : (name : List ℕ) (e argument : Exp) (v w : Value) (c : ℕ) → argument_of name e ≡ Some argument → bound_of name basis ≡ Some (roll-Bound (Bound-F.Variable (prim_value name))) → Yields argument v → ((same : Comparing) (s : EvalState) → prim_result same name [] v s ≡ Done w (counted c s)) → Yields e w
 applied_yields name e argument v w c i b y p =
     let applied = argument_is name e argument i in
     app_yields name e applied.0 argument v w c applied.1 (name_yields applied.0 name applied.2 b) y p
 
-infix_yields : (name : List ℕ) (e a b : Exp) (x y w : Value) (c : ℕ) → sides_of name e ≡ Some (a, b) → bound_of name basis ≡ Some (roll-Bound (Bound-F.Variable (prim_value name))) → Yields a x → Yields b y → ((s : EvalState) → prim_result name (tuple_value (x ∷ y ∷ [])) s ≡ Done w (counted c s)) → Yields e w
+infix_yields : (name : List ℕ) (e a b : Exp) (x y w : Value) (c : ℕ) → sides_of name e ≡ Some (a, b) → bound_of name basis ≡ Some (roll-Bound (Bound-F.Variable (prim_value name))) → Yields a x → Yields b y → ((same : Comparing) (s : EvalState) → prim_result same name [] (tuple_value (x ∷ y ∷ [])) s ≡ Done w (counted c s)) → Yields e w
 infix_yields name e a b x y w c i o ya yb p =
     let applied = bind_some (argument_of name e) pair_of (a, b) i in
     applied_yields name e applied.0 (tuple_value (x ∷ y ∷ [])) w c applied.1 o (pair_yields applied.0 a b x y (pair_is applied.0 a b applied.2) ya yb) p
@@ -139,8 +139,8 @@ joined_yields e parts (more {front} {part} {left} {right} i j p) =
 abbrev written_in : List ℕ → EvalState → EvalState
 written_in text s = record s { body = s.body ++ text }
 
-write_result : (text : List ℕ) (s : EvalState) → prim_result (codes "Web.write") (text_value text) s ≡ Done unit_value (written_in text s)
-write_result text s = ap (λ v. web_write v s) (out-roll-Value (Value-F.Str text))
+write_result : (text : List ℕ) (same : Comparing) (s : EvalState) → prim_result same (codes "Web.write") [] (text_value text) s ≡ Done unit_value (written_in text s)
+write_result text same s = ap (λ v. web_write v s) (out-roll-Value (Value-F.Str text))
 
 write_name : (f : Exp) → form_of_exp f ≡ ExpForm-F.Name (codes "Web.write") → Yields f (prim_value (codes "Web.write"))
 write_name f i = name_yields f (codes "Web.write") i refl
@@ -150,30 +150,30 @@ abbrev pub write_cost : ℕ → ℕ → ℕ
 write_cost f c = f + c + 1
 
 write_form : (f e : Exp) (text : List ℕ) (w : Yields f (prim_value (codes "Web.write"))) (y : Yields e (text_value text)) (n : ℕ) (s : EvalState) → w.height + y.height ≤ n
-    → exp_result (eval n) basis s (ExpForm-F.App f e) ≡ Done unit_value (written_in text (counted (write_cost w.cost y.cost) s))
+    → exp_result (level n) [] s (ExpForm-F.App f e) ≡ Done unit_value (written_in text (counted (write_cost w.cost y.cost) s))
 write_form f e text w y n s l =
-    ap (λ o. then_do o (λ g s1. then_do (eval n basis s1 e) (λ u s2. application (form_of_value g) u (counted 1 s2)))) (w.gives n s (omega (arith, l)))
-    ∙ ap (λ o. then_do o (λ u s2. application (form_of_value (prim_value (codes "Web.write"))) u (counted 1 s2))) (y.gives n (counted w.cost s) (omega (arith, l)))
-    ∙ ap (λ g. application g (text_value text) (counted 1 (counted y.cost (counted w.cost s)))) (out-roll-Value (Value-F.Prim (codes "Web.write") []))
-    ∙ write_result text (counted 1 (counted y.cost (counted w.cost s)))
+    ap (λ o. then_do o (λ g s1. then_do (eval n [] s1 e) (λ u s2. application (level n) (form_of_value g) u (counted 1 s2)))) (w.gives n s (omega (arith, l)))
+    ∙ ap (λ o. then_do o (λ u s2. application (level n) (form_of_value (prim_value (codes "Web.write"))) u (counted 1 s2))) (y.gives n (counted w.cost s) (omega (arith, l)))
+    ∙ ap (λ g. application (level n) g (text_value text) (counted 1 (counted y.cost (counted w.cost s)))) (out-roll-Value (Value-F.Prim (codes "Web.write") []))
+    ∙ write_result text (level n).same (counted 1 (counted y.cost (counted w.cost s)))
     ∙ ap (λ s1. Done unit_value (written_in text s1)) (ap (counted 1) (counted_twice w.cost y.cost s) ∙ counted_twice (w.cost + y.cost) 1 s)
 
 write_gives : (whole f e : Exp) (text : List ℕ) → form_of_exp whole ≡ ExpForm-F.App f e → (w : Yields f (prim_value (codes "Web.write"))) (y : Yields e (text_value text)) (n : ℕ) (s : EvalState) → w.height + y.height ≤ n
-    → eval (suc n) basis s whole ≡ Done unit_value (written_in text (counted (write_cost w.cost y.cost) (counted 1 s)))
-write_gives whole f e text i w y n s l = ap (exp_result (eval n) basis (counted 1 s)) i ∙ write_form f e text w y n (counted 1 s) l
+    → eval (suc n) [] s whole ≡ Done unit_value (written_in text (counted (write_cost w.cost y.cost) (counted 1 s)))
+write_gives whole f e text i w y n s l = ap (exp_result (level n) [] (counted 1 s)) i ∙ write_form f e text w y n (counted 1 s) l
 
 binding_gives : (pat : Pat) (whole f e : Exp) (text : List ℕ) → form_of_pat pat ≡ PatForm-F.Any → form_of_exp whole ≡ ExpForm-F.App f e → (w : Yields f (prim_value (codes "Web.write"))) (y : Yields e (text_value text)) (n : ℕ) (s : EvalState) → w.height + y.height ≤ n
-    → binding (suc n) basis basis s (pat, whole) ≡ Done basis (counted 1 (written_in text (counted (write_cost w.cost y.cost) (counted 1 s))))
+    → binding (level (suc n)) [] [] s (pat, whole) ≡ Done [] (counted 1 (written_in text (counted (write_cost w.cost y.cost) (counted 1 s))))
 binding_gives pat whole f e text any i w y n s l =
-    ap (λ o. then_do o (λ v s1. then_do (match_pat (suc n) pat v basis s1) (λ more s2. bound_more basis more s2))) (write_gives whole f e text i w y n s l)
-    ∙ ap (λ p. then_do (pat_result p (form_of_value unit_value) basis (counted 1 (written_in text (counted (write_cost w.cost y.cost) (counted 1 s))))) (λ more s2. bound_more basis more s2)) any
+    ap (λ o. then_do o (λ v s1. then_do ((level (suc n)).pat [] s1 pat v) (λ more s2. bound_more [] more s2))) (write_gives whole f e text i w y n s l)
+    ∙ ap (λ p. then_do (pat_result (level n).pat [] (counted 1 (written_in text (counted (write_cost w.cost y.cost) (counted 1 s)))) p unit_value) (λ more s2. bound_more [] more s2)) any
 
 dec_gives : (dec : Dec) (pat : Pat) (whole f e : Exp) (text : List ℕ) → form_of_dec dec ≡ DecForm-F.Val ((pat, whole) ∷ []) → form_of_pat pat ≡ PatForm-F.Any → form_of_exp whole ≡ ExpForm-F.App f e → (w : Yields f (prim_value (codes "Web.write"))) (y : Yields e (text_value text)) (n : ℕ) (s : EvalState) → w.height + y.height ≤ n
-    → eval_decs (suc (suc n)) basis s (dec ∷ [])
-    ≡ Done basis (counted 1 (written_in text (counted (write_cost w.cost y.cost) (counted 1 (counted 1 (counted 1 s))))))
+    → eval_decs (suc (suc n)) [] s (dec ∷ [])
+    ≡ Done [] (counted 1 (written_in text (counted (write_cost w.cost y.cost) (counted 1 (counted 1 (counted 1 s))))))
 dec_gives dec pat whole f e text d any i w y n s l =
-    ap (λ form. with_dec (suc n) (bindings_result (suc n)) basis (counted 1 s) form []) d
-    ∙ ap (λ o. then_do o (λ env1 s1. bindings_result (suc n) basis env1 s1 [] [])) (binding_gives pat whole f e text any i w y n (counted 1 (counted 1 s)) l)
+    ap (λ form. then_do (with_dec (level (suc n)) [] (counted 1 s) form (plan_of [] [] [])) (λ r s1. Done r.0 s1)) d
+    ∙ ap (λ o. then_do (then_do o (λ env1 s1. (level (suc n)).scope [] env1 s1 [] (plan_of [] [] []))) (λ r s1. Done r.0 s1)) (binding_gives pat whole f e text any i w y n (counted 1 (counted 1 s)) l)
 
 -- straight declarations come to the end whose body is what their parts stand for, for every form and all databases
 pub straight_page : (items : List Dec) (parts : List Part) → IsStraight items parts → (form : List (List ℕ × List ℕ)) (databases : List (List ℕ)) → PageOf items form databases [] [] (Finished 200 html_type (text_of parts))
@@ -184,6 +184,6 @@ straight_page items parts straight form databases =
     let y = joined_yields straight.argument parts straight.joined in
     let h = w.height + y.height in (
       suc (suc h),
-      subst (λ decs. EndsAs (eval_decs (suc (suc h)) basis (start_state form databases []) decs) [] (Finished 200 html_type (text_of parts))) (sym straight.one)
+      subst (λ decs. EndsAs (eval_decs (suc (suc h)) [] (start_state form databases []) decs) [] (Finished 200 html_type (text_of parts))) (sym straight.one)
           (subst (λ o. EndsAs o [] (Finished 200 html_type (text_of parts))) (sym (dec_gives straight.dec i.pat i.whole applied.0 straight.argument (text_of parts) i.form i.any applied.1 w y h (start_state form databases []) (omega arith))) (refl, refl, refl, refl)),
     )

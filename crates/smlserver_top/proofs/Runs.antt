@@ -15,7 +15,8 @@ use Rattle.kam_code.specs.declared.instr.Instr.TheVariants.{Const, Text, Mul, Te
 use Rattle.kam_code.specs.State.{State, start}
 use Rattle.kam_code.specs.Layout.{text_words}
 use Rattle.kam_code.specs.Word.{word_of, number_of, spelling}
-use Rattle.kam_code.specs.Step.{Halted, Goes, Ends, with_found, onward, pushed, overflow, thrown, computed, text_behind, text_made, act, step, and_then, steps, Writes, NeverStuck}
+use Rattle.kam_code.specs.Memory.{text_behind}
+use Rattle.kam_code.specs.Step.{Halted, Goes, Ends, Result, Word as word_result, Text as text_result, Throws, Body, of_found, delivered, number_result, with_found, onward, overflow, act, step, and_then, steps, Writes, NeverStuck}
 use Rattle.kam_code.proofs.Packed.{IsBytes, text_words_length}
 use Rattle.kam_code.proofs.Regions.{text_behind-with_more, text_behind-made}
 use Rattle.kam_code.proofs.Runs.{steps-suc, writes-never_stuck}
@@ -65,7 +66,7 @@ text_step code form databases i count a stack region text body out charge e t l 
     let state : State = one_region form databases a (1 ∷ stack) region body charge in
     one_more code count state (with_text form databases a stack region text body charge) out
     (step_at code (Text i) state e
-    ∙ ap (λ o. with_found o (λ x. text_made 1 x stack state)) t
+    ∙ ap (λ o. delivered code state stack (of_found o (λ x. text_result 1 x))) t
     ∙ text_made_global 1 region text stack state refl refl l) h
 
 mul_step : (code : Code) (form : List (List ℕ × List ℕ)) (databases : List (List ℕ)) (m n count a : ℕ) (stack region body out : List ℕ) (charge : ℕ) → slice_get code.instrs a ≡ Some Mul → m < 2 ^ 63 → n < 2 ^ 63 → m * n < 2 ^ 63 → Halts code count (one_region form databases (a + 1) (word_of (pos (m * n)) ∷ stack) region body (charge + 1)) out → Halts code (suc count) (one_region form databases a (word_of (pos n) ∷ word_of (pos m) ∷ stack) region body charge) out
@@ -74,16 +75,16 @@ mul_step code form databases m n count a stack region body out charge e lm ln l 
     let test : nat_lt (m * n) (2 ^ 63) ≡ true = grind (arith, nat_tests) in
     one_more code count state (one_region form databases (a + 1) (word_of (pos (m * n)) ∷ stack) region body (charge + 1)) out
     (step_at code Mul state e
-    ∙ ap (λ x. computed code (x *ℤ number_of (word_of (pos n))) stack state) (number_again m lm)
-    ∙ ap (λ x. computed code (pos m *ℤ x) stack state) (number_again n ln)
-    ∙ ap (λ b. cond b (pushed (word_of (pos (m * n))) stack state) (thrown code overflow stack state)) test) h
+    ∙ ap (λ x. delivered code state stack (number_result (x *ℤ number_of (word_of (pos n))))) (number_again m lm)
+    ∙ ap (λ x. delivered code state stack (number_result (pos m *ℤ x))) (number_again n ln)
+    ∙ ap (λ b. delivered code state stack (cond b (word_result (word_of (pos (m * n)))) (Throws overflow))) test) h
 
 spell_step : (code : Code) (form : List (List ℕ × List ℕ)) (databases : List (List ℕ)) (n count a : ℕ) (stack region body out : List ℕ) (charge : ℕ) → slice_get code.instrs a ≡ Some TextFromInt → n < 2 ^ 63 → length region + length (text_words (decimal n)) < 2 ^ 32 → Halts code count (with_text form databases a stack region (decimal n) body charge) out → Halts code (suc count) (one_region form databases a (1 ∷ word_of (pos n) ∷ stack) region body charge) out
 spell_step code form databases n count a stack region body out charge e ln l h =
     let state : State = one_region form databases a (1 ∷ word_of (pos n) ∷ stack) region body charge in
     one_more code count state (with_text form databases a stack region (decimal n) body charge) out
     (step_at code TextFromInt state e
-    ∙ ap (λ z. text_made 1 (spelling z) stack state) (number_again n ln)
+    ∙ ap (λ z. delivered code state stack (text_result 1 (spelling z))) (number_again n ln)
     ∙ text_made_global 1 region (decimal n) stack state refl refl l) h
 
 join_step : (code : Code) (form : List (List ℕ × List ℕ)) (databases : List (List ℕ)) (p q count a : ℕ) (stack region first second body out : List ℕ) (charge : ℕ) → slice_get code.instrs a ≡ Some TextCat → text_behind p (global region) ≡ Some first → text_behind q (global region) ≡ Some second → length region + length (text_words (first ++ second)) < 2 ^ 32 → Halts code count (with_text form databases a stack region (first ++ second) body charge) out → Halts code (suc count) (one_region form databases a (1 ∷ q ∷ p ∷ stack) region body charge) out
@@ -91,8 +92,8 @@ join_step code form databases p q count a stack region first second body out cha
     let state : State = one_region form databases a (1 ∷ q ∷ p ∷ stack) region body charge in
     one_more code count state (with_text form databases a stack region (first ++ second) body charge) out
     (step_at code TextCat state e
-    ∙ ap (λ o. with_found o (λ x. with_found (text_behind q (global region)) (λ y. text_made 1 (x ++ y) stack state))) hp
-    ∙ ap (λ o. with_found o (λ y. text_made 1 (first ++ y) stack state)) hq
+    ∙ ap (λ o. delivered code state stack (of_found o (λ x. of_found (text_behind q (global region)) (λ y. text_result 1 (x ++ y))))) hp
+    ∙ ap (λ o. delivered code state stack (of_found o (λ y. text_result 1 (first ++ y)))) hq
     ∙ text_made_global 1 region (first ++ second) stack state refl refl l) h
 
 write_step : (code : Code) (form : List (List ℕ × List ℕ)) (databases : List (List ℕ)) (p count a : ℕ) (stack region text body out : List ℕ) (charge : ℕ) → slice_get code.instrs a ≡ Some Write → text_behind p (global region) ≡ Some text → Halts code count (one_region form databases (a + 1) stack region (body ++ text) (charge + 1)) out → Halts code (suc count) (one_region form databases a (p ∷ stack) region body charge) out
@@ -100,7 +101,7 @@ write_step code form databases p count a stack region text body out charge e hp 
     let state : State = one_region form databases a (p ∷ stack) region body charge in
     one_more code count state (one_region form databases (a + 1) stack region (body ++ text) (charge + 1)) out
     (step_at code Write state e
-    ∙ ap (λ o. with_found o (λ t. Goes (onward stack (record state { body = body ++ t })))) hp) h
+    ∙ ap (λ o. delivered code state stack (of_found o (λ t. Body (body ++ t)))) hp) h
 
 halt_step : (code : Code) (form : List (List ℕ × List ℕ)) (databases : List (List ℕ)) (a : ℕ) (stack region body : List ℕ) (charge : ℕ) → slice_get code.instrs a ≡ Some Halt → Halts code (suc zero) (one_region form databases a stack region body charge) body
 halt_step code form databases a stack region body charge e =

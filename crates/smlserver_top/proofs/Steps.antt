@@ -5,7 +5,8 @@ use Rattle.std.proofs.lemmas.Bool.Decides.{nat_tests}
 use Rattle.kam_code.specs.declared.code.Code.{Code}
 use Rattle.kam_code.specs.State.{State, start}
 use Rattle.kam_code.specs.Layout.{text_words}
-use Rattle.kam_code.specs.Step.{Halted, Uncaught, Next, Goes, Ends, Stuck, with_found, onward, pushed, region_words, pointer, grown, made_in, text_made, raised_to, thrown, step, steps, Writes}
+use Rattle.kam_code.specs.Memory.{region_words, pointer}
+use Rattle.kam_code.specs.Step.{Halted, Uncaught, Next, Goes, Ends, Stuck, with_found, onward, pushed, grown, made_in, text_made, raised_to, thrown, step, and_then, steps, Writes}
 use Rattle.kam_code.proofs.Runs.{steps-suc}
 use Rattle.smlserver_top.specs.declared.machine.Stop.{Stop}
 use Rattle.smlserver_top.specs.declared.machine.Stop.TheVariants.{Going as going, Halted as halted, Raised as raised, Stuck as stuck}
@@ -35,6 +36,22 @@ pub steps_turn : (code : Code) (most turn : ℕ) (state next : State) (whole : N
 steps_turn code most turn state next whole l w e =
     let n : most - turn ≡ suc (most - (turn + 1)) = omega arith in
     sym (ap (λ k. steps code k state) n ∙ steps-suc code (most - (turn + 1)) state next (sym e)) ∙ w
+
+-- an end stays, whatever would follow
+end_stays : (stop : Stop) (next : State) (f : State → Next) → (stop ≡ going → ⊥) → and_then (next_of stop next) f ≡ next_of stop next
+end_stays going next f g = absurd (g refl)
+end_stays halted next f g = refl
+end_stays (raised name) next f g = refl
+end_stays stuck next f g = refl
+
+-- the last turn of a run
+pub steps_stop : (code : Code) (most turn : ℕ) (stop : Stop) (state next : State) (whole : Next) → turn < most → steps code (most - turn) state ≡ whole → next_of stop next ≡ step code state → (stop ≡ going → ⊥) → next_of stop next ≡ whole
+steps_stop code most turn stop state next whole l w e g =
+    let n : most - turn ≡ suc (most - (turn + 1)) = omega arith in
+    sym (end_stays stop next (steps code (most - (turn + 1))) g)
+    ∙ ap (λ x. and_then x (steps code (most - (turn + 1)))) e
+    ∙ sym (ap (λ k. steps code k state) n)
+    ∙ w
 
 ends_halted : (stop : Stop) (state final : State) → next_of stop state ≡ Ends Halted final → (stop ≡ halted) × (state ≡ final)
 ends_halted going state final e = absurd (cc)

@@ -2,6 +2,7 @@
 ghost use Rattle.std.specs.Prelude.{◌≡◌, ◌++◌, ◌∷◌, [], length, IfOk, OnOk};
 ghost use Rattle.kam_code.specs.Step.{Writes, NeverStuck};
 ghost use Rattle.smlserver_top.specs.Parts.{ArePlain, AreSmall, AreFew, text_of};
+ghost use Rattle.smlserver_top.specs.StraightCode.{AreStraight};
 ghost use Rattle.smlserver_top.specs.Compiled.{part_code, rest_code, code_of, texts_of};
 
 use crate::machine::{Machine, Stop};
@@ -88,6 +89,7 @@ fn compile(alloc: Global, parts: &[Part]) -> Result<Code, NoMemory>
     requires few { AreFew parts.now }
     ensures writes { IfOk result (λ code. Writes code (length code.instrs) (text_of parts.now)) }
     ensures never_stuck { IfOk result (λ code. NeverStuck code) }
+    ensures straight { IfOk result (λ code. AreStraight code.instrs) }
 {
     let code = code_of(alloc, parts)?;
     Ok(code)

@@ -1,10 +1,12 @@
 // The machine over one region: it makes the steps of the instructions of straight code.
-ghost use Rattle.std.specs.Prelude.{◌≡◌, ◌++◌, ◌<◌, ◌^◌, [], ◌∷◌, drop, slice_get, IfOk, OnOk, IfSome, IsSome, IsNone, length};
+ghost use Rattle.std.specs.Prelude.{◌≡◌, true, ◌++◌, ◌<◌, ◌^◌, [], ◌∷◌, drop, slice_get, IfOk, OnOk, IfSome, IsSome, IsNone, length};
 ghost use Rattle.std.specs.Option.{is_some, unwrap_or, option_copied};
 ghost use Rattle.kam_code.specs.State.{start};
 ghost use Rattle.kam_code.specs.Word.{spelling};
 ghost use Rattle.kam_code.specs.Layout.{text_words};
-ghost use Rattle.kam_code.specs.Step.{Goes, onward, pushed, grown, text_made, thrown, text_behind, act, step, steps};
+ghost use Rattle.kam_code.specs.Memory.{text_behind};
+ghost use Rattle.kam_code.specs.Step.{Goes, onward, pushed, grown, text_made, thrown, act, step, steps};
+ghost use Rattle.smlserver_top.specs.StraightCode.{is_straight, AreStraight};
 ghost use Rattle.smlserver_top.specs.OneRegion.{global};
 ghost use Rattle.smlserver_top.specs.Stop.{next_of};
 
@@ -293,9 +295,10 @@ fn instr_at(instrs: &[Instr], address: usize) -> Option<&Instr>
 
 // Steps and runs.
 impl Machine {
-    // What an instruction does.
+    // What an instruction of straight code does.
     fn act(&mut self, alloc: Global, code: &Code, instr: Instr) -> Result<Stop, NoMemory>
-        requires { self.old.address < usize.MAX }
+        requires within { self.old.address < usize.MAX }
+        requires straight { is_straight instr ≡ true }
         ensures { IfOk result (λ stop. next_of stop self.new ≡ act code.now instr self.old) }
     {
         match instr {
@@ -312,6 +315,7 @@ impl Machine {
 
     // One step.
     fn step(&mut self, alloc: Global, code: &Code) -> Result<Stop, NoMemory>
+        requires straight { AreStraight code.now.instrs }
         ensures { IfOk result (λ stop. next_of stop self.new ≡ step code.now self.old) }
     {
         match instr_at(code.instrs.as_slice(), self.address) {
@@ -323,6 +327,7 @@ impl Machine {
     /// So many steps, or fewer where the run ends or a step is wanting.
     #[tactic(auto, using(crate::proofs::Steps::steps_turn))]
     pub(crate) fn run(&mut self, alloc: Global, code: &Code, most: usize) -> Result<Stop, NoMemory>
+        requires straight { AreStraight code.now.instrs }
         ensures { IfOk result (λ stop. next_of stop self.new ≡ steps code.now most self.old) }
     {
         for turn in 0..most {

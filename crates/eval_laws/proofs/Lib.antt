@@ -1,0 +1,5 @@
+pub mod Relations
+pub mod Rows
+pub mod Patterns
+pub mod Expressions
+pub mod Levels

@@ -1,0 +1,39 @@
+// Worked examples of the evaluation.
+ghost use Rattle.std.specs.Prelude.{◌≡◌, ◌^◌, ◌-◌, pos, negsuc, true, false, None, codes};
+ghost use Rattle.sml_syntax.specs.declared.value.Bound.TheOpen.{Value-F};
+ghost use Rattle.sml_syntax.specs.declared.tree.DecForm.TheOpen.{Piece-F};
+ghost use Rattle.sml_syntax.specs.Values.{Env, int_value, text_value, applied_value, exn_value};
+ghost use Rattle.sml_syntax.specs.Outcome.{EvalState, Done, Raised, counted};
+ghost use Rattle.sml_syntax.specs.BasisFunctions.{quotient, modulus};
+ghost use Rattle.sml_syntax.specs.Primitives.{Comparing, by_divisor};
+ghost use Rattle.sml_syntax.specs.Evaluation.{Evaluator, bound_more, piece_value, same_result};
+
+/// `~7 div 2` is `~4` and leaves 1; `7 div ~2` is `~4` and leaves `~1`.
+pub fn division_rounds_down()
+    ensures left { (s : EvalState) → by_divisor quotient (Value-F.Int (negsuc 6)) (Value-F.Int (pos 2)) s ≡ Done (int_value (negsuc 3)) s }
+    ensures left_over { (s : EvalState) → by_divisor modulus (Value-F.Int (negsuc 6)) (Value-F.Int (pos 2)) s ≡ Done (int_value (pos 1)) s }
+    ensures right { (s : EvalState) → by_divisor quotient (Value-F.Int (pos 7)) (Value-F.Int (negsuc 1)) s ≡ Done (int_value (negsuc 3)) s }
+    ensures right_over { (s : EvalState) → by_divisor modulus (Value-F.Int (pos 7)) (Value-F.Int (negsuc 1)) s ≡ Done (int_value (negsuc 0)) s }
+{}
+
+/// The least integer divided by `~1` raises `Overflow`, and anything divided by 0 raises `Div`.
+pub fn division_raises()
+    ensures overflow { (s : EvalState) → by_divisor quotient (Value-F.Int (negsuc (2 ^ 63 - 1))) (Value-F.Int (negsuc 0)) s ≡ Raised (exn_value 3 (codes "Overflow")) (counted 2 s) }
+    ensures zero { (s : EvalState) → by_divisor quotient (Value-F.Int (pos 1)) (Value-F.Int (pos 0)) s ≡ Raised (exn_value 2 (codes "Div")) (counted 2 s) }
+{}
+
+/// A reference is equal to itself alone.
+pub fn references_are_told_apart()
+    ensures same { (part : Comparing) (s : EvalState) → same_result part (Value-F.Ref 3) (Value-F.Ref 3) s ≡ Done true s }
+    ensures other { (part : Comparing) (s : EvalState) → same_result part (Value-F.Ref 3) (Value-F.Ref 4) s ≡ Done false s }
+{}
+
+/// A pattern that doesn't fit raises `Bind`.
+pub fn bind_is_raised()
+    ensures { (env : Env) (s : EvalState) → bound_more env None s ≡ Raised (exn_value 1 (codes "Bind")) (counted 2 s) }
+{}
+
+/// A plain piece of a quotation is `QUOTE` of its text: two words, and two of the text.
+pub fn plain_piece_is_quoted()
+    ensures { (part : Evaluator) (env : Env) (s : EvalState) → piece_value part env s (Piece-F.Plain (codes "a")) ≡ Done (applied_value (codes "QUOTE") (text_value (codes "a"))) (counted 4 s) }
+{}

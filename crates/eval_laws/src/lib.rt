@@ -1,0 +1,11 @@
+//! What holds of the evaluation of programs: greater heights, and worked examples.
+#![tactic(auto)]
+
+mod examples;
+mod heights;
+
+pub use examples::{
+    bind_is_raised, division_raises, division_rounds_down, plain_piece_is_quoted,
+    references_are_told_apart,
+};
+pub use heights::{counts_grow, greater_heights};
