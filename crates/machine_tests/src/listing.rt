@@ -22,7 +22,8 @@ fn lists(rt: &(impl Abort + AllocGlobal)) {
         names: Listed::of(Vec::new(alloc)),
     };
     let listing = list_code(alloc, &code).expect(rt, "memory");
-    let lines: &[u8] = b"0 const ~1\n1 jump_not 3 7\n2 cache_look 0 12\n3 local 2\n4 ge\n5 self\n6 halt\n";
+    let lines: &[u8] =
+        b"0 const ~1\n1 jump_not 3 7\n2 cache_look 0 12\n3 local 2\n4 ge\n5 self\n6 halt\n";
     assert!(rt; listing.as_bytes() == lines);
 }
 

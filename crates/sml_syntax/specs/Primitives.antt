@@ -379,8 +379,11 @@ primitives =
     ∷ (codes "Web.Cache.String", Constant (desc_value desc.Str))
     ∷ (codes "Web.Cache.Unit", Constant (desc_value desc.Unit))
     ∷ (codes "Web.Cache.Pair", Second (λ a b s. by_form (of_desc (λ d. by_form (of_desc (λ e s2. Done (desc_value (desc.Pair d e)) s2)) b)) a s))
-    ∷ (codes "Web.Cache.Triple", Third (λ a b c s.
-        by_form (of_desc (λ d. by_form (of_desc (λ e. by_form (of_desc (λ f s3. Done (desc_value (desc.Triple d e f)) s3)) c)) b)) a s))
+    ∷ (
+      codes "Web.Cache.Triple",
+      Third (λ a b c s.
+          by_form (of_desc (λ d. by_form (of_desc (λ e. by_form (of_desc (λ f s3. Done (desc_value (desc.Triple d e f)) s3)) c)) b)) a s),
+    )
     ∷ (codes "Web.Cache.Option", one (of_desc (λ d s. Done (desc_value (desc.Opt d)) s)))
     ∷ (codes "Web.Cache.List", one (of_desc (λ d s. Done (desc_value (desc.List d)) s)))
     ∷ (codes "Web.Cache.get", one (of_four (λ a b c d s. cache_get (form_of_value a) (form_of_value b) (form_of_value c) (form_of_value d) s)))
