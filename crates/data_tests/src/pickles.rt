@@ -295,7 +295,7 @@ fn deep_data_are_spelled(rt: HostRuntime) -> Result<(), Fail> {
         bytes.push(0)?;
     }
     is_spelled(&rt, &desc, &datum, &bytes)?;
-    for len in 0..52 {
+    for len in 0..bytes.len() {
         let front = read(rt.alloc(), &desc, &bytes[..len]);
         assert!(rt; matches!(front, Err(PickleRefusal::NotAPickle(place)) if place == len as u64));
     }
