@@ -11,4 +11,3 @@ mod copies;
 mod lex_table;
 #[cfg(test)]
 mod parse_table;
-mod type_table;
