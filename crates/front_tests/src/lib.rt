@@ -11,5 +11,3 @@ mod copies;
 mod lex_table;
 #[cfg(test)]
 mod parse_table;
-#[cfg(test)]
-mod type_table;
