@@ -160,6 +160,8 @@ fn keep_to<R: RowStore>(rt: &(impl Abort + AllocGlobal), rows: &mut R, steps: &[
 
 // Two thousand calls, whose keys and values are drawn by a linear congruence.
 fn answers_alike_by(rt: &(impl Abort + AllocGlobal), kind: Kind) {
+    let letters: &[u8] = b"abcdefghijklmnop";
+    let digits: &[u8] = b"0123456789";
     let mut calls = Vec::new(rt.alloc());
     let mut seed: u64 = 1;
     let mut now: u64 = 0;
@@ -168,10 +170,11 @@ fn answers_alike_by(rt: &(impl Abort + AllocGlobal), kind: Kind) {
             .wrapping_mul(6364136223846793005)
             .wrapping_add(1442695040888963407);
         now = now.saturating_add((seed >> 60) % 3);
-        let key = &b"abcdefghijklmnop"[(seed >> 40) as usize % 12..12 + (seed >> 36) as usize % 5];
-        let key = Text::from_bytes(rt.alloc(), key).expect(rt, "memory");
-        let value = &b"0123456789"[..(seed >> 30) as usize % 11];
-        let value = Text::from_bytes(rt.alloc(), value).expect(rt, "memory");
+        let from = (seed >> 40) as usize % 12;
+        let to = 12 + (seed >> 36) as usize % 5;
+        let key = Text::from_bytes(rt.alloc(), &letters[from..to]).expect(rt, "memory");
+        let long = (seed >> 30) as usize % 11;
+        let value = Text::from_bytes(rt.alloc(), &digits[..long]).expect(rt, "memory");
         let call = match (seed >> 50) % 64 {
             0 => RowCall::Flush(now),
             1..=31 => RowCall::Look(now, key),
