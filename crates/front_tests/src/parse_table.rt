@@ -10,8 +10,9 @@ use std::process::Abort;
 use std::test::Fail;
 use tree_text::show_declarations;
 
-/// Scripts with what they parse to: the items, or the refusal with its place.
-const ROWS: [(&str, &str); 189] = [
+/// Scripts with what they parse to: the items, or the refusal with its place. The table stands in four parts, since the
+/// check of one would be too long.
+const ROWS: [(&str, &str); 48] = [
     // constants, names and quotations
     ("", ""),
     ("val x = 12", "(val [x 12])"),
@@ -138,6 +139,9 @@ const ROWS: [(&str, &str); 189] = [
         "val (~1, #\"a\", \"b\", (), (x)) = a",
         "(val [(tuple -1 #97 'b' () x) a])",
     ),
+];
+
+const MORE_ROWS: [(&str, &str); 47] = [
     ("val [] = a", "(val [(list) a])"),
     (
         "val [x, y : int] = a",
@@ -247,6 +251,9 @@ const ROWS: [(&str, &str); 189] = [
     ("val x = a : 'a list", "ConstraintVar 12"),
     ("fn (x : 'a) => x", "ConstraintVar 8"),
     ("exception E of 'a", "ConstraintVar 15"),
+];
+
+const LATER_ROWS: [(&str, &str); 47] = [
     ("fun f x : 'a = x", "ConstraintVar 10"),
     ("datatype 'a t = A of t", "NestedType 21"),
     ("datatype 'a t = A of int t", "NestedType 21"),
@@ -310,6 +317,9 @@ const ROWS: [(&str, &str); 189] = [
     ("val x : int : int = 1", "Unexpected 12"),
     ("val x : int * = 1", "Unexpected 14"),
     ("val x : (int, int) = 1", "Unexpected 19"),
+];
+
+const LAST_ROWS: [(&str, &str); 47] = [
     ("val x : int + = 1", "Unexpected 12"),
     ("type t", "Unexpected 6"),
     ("type (a) t = int", "Unexpected 6"),
@@ -416,27 +426,56 @@ const LONG: [(&str, &str, usize, &str, &str, &str, &str); 20] = [
     ("val x = ", "(", 50_000, "1", ")", ")", "Unexpected 100009"),
 ];
 
+fn agrees(rt: &(impl Abort + AllocGlobal), rows: &[(&str, &str)], spans: bool) -> Result<(), Fail> {
+    for (script, told) in rows {
+        let shown = shown(rt.alloc(), script.as_bytes(), spans)?;
+        assert_eq!(rt; shown.as_str(), *told, "{script:?}");
+    }
+    Ok(())
+}
+
 #[test]
-fn builds_the_trees_of_scripts(rt: HostRuntime) -> Result<(), Fail> {
-    let alloc = rt.alloc();
-    for (script, told) in &ROWS {
-        let shown = shown(alloc, script.as_bytes(), false)?;
-        assert_eq!(rt; shown.as_str(), *told, "{script:?}");
-    }
-    for (script, told) in &SPANS {
-        let shown = shown(alloc, script.as_bytes(), true)?;
-        assert_eq!(rt; shown.as_str(), *told, "{script:?}");
-    }
+fn builds_trees(rt: HostRuntime) -> Result<(), Fail> {
+    agrees(&rt, &ROWS, false)
+}
+
+#[test]
+fn builds_more_trees(rt: HostRuntime) -> Result<(), Fail> {
+    agrees(&rt, &MORE_ROWS, false)
+}
+
+#[test]
+fn builds_later_trees(rt: HostRuntime) -> Result<(), Fail> {
+    agrees(&rt, &LATER_ROWS, false)
+}
+
+#[test]
+fn builds_last_trees(rt: HostRuntime) -> Result<(), Fail> {
+    agrees(&rt, &LAST_ROWS, false)
+}
+
+#[test]
+fn tells_spans(rt: HostRuntime) -> Result<(), Fail> {
+    agrees(&rt, &SPANS, true)
+}
+
+#[test]
+fn reads_high_and_long_scripts(rt: HostRuntime) -> Result<(), Fail> {
     for row in &LONG {
-        let script = repeated(alloc, row)?;
-        let refusal = refusal(alloc, &script)?;
+        let script = repeated(rt.alloc(), row)?;
+        let refusal = refusal(rt.alloc(), &script)?;
         assert_eq!(rt; refusal.as_str(), row.6, "{row:?}");
     }
-    refuses_tokens_of_no_script(&rt)
+    Ok(())
+}
+
+#[test]
+fn refuses_tokens_of_no_script(rt: HostRuntime) -> Result<(), Fail> {
+    refuses_tokens(&rt)
 }
 
 // Tokens that no script has.
-fn refuses_tokens_of_no_script(rt: &(impl Abort + AllocGlobal)) -> Result<(), Fail> {
+fn refuses_tokens(rt: &(impl Abort + AllocGlobal)) -> Result<(), Fail> {
     let alloc = rt.alloc();
     let word = Text::from_bytes(alloc, b"val")?;
     let name = vec![in alloc; TokenForm::Name(word)]?;

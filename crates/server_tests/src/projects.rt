@@ -153,18 +153,21 @@ fn spelled(alloc: Global, project: &Project) -> Result<Vec<u8>, AllocError> {
     Ok(text)
 }
 
+fn fault_name(fault: LineFault) -> &'static [u8] {
+    match fault {
+        LineFault::ProjectLine => b"ProjectLine",
+        LineFault::TwoPaths => b"TwoPaths",
+    }
+}
+
 // What the reader answers, as the table spells it.
 fn answer(alloc: Global, text: &[u8]) -> Result<Vec<u8>, Fail> {
     match read_project(alloc, text) {
         Ok(project) => Ok(spelled(alloc, &project)?),
         Err(ProjectRefusal::Line(number, fault)) => {
-            let name = match fault {
-                LineFault::ProjectLine => b"ProjectLine".as_slice(),
-                LineFault::TwoPaths => b"TwoPaths".as_slice(),
-            };
             let number = number.to_string(alloc)?;
             let mut text = Vec::new(alloc);
-            push_words(&mut text, &[name, number.as_bytes()])?;
+            push_words(&mut text, &[fault_name(fault), number.as_bytes()])?;
             Ok(text)
         }
         Err(ProjectRefusal::NoMemory) => Err("no memory")?,

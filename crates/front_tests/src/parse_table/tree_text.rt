@@ -135,20 +135,6 @@ fn show_listed(out: &mut String, word: &str, exps: &[Exp], spans: bool) -> Resul
 }
 
 #[cycle(shown_programs)]
-fn show_two(
-    out: &mut String,
-    word: &str,
-    first: &Exp,
-    second: &Exp,
-    spans: bool,
-) -> Result<(), Fail> {
-    out.push_str(word)?;
-    show_expression(out, first, spans)?;
-    out.push_str(" ")?;
-    show_expression(out, second, spans)
-}
-
-#[cycle(shown_programs)]
 fn show_expression(out: &mut String, exp: &Exp, spans: bool) -> Result<(), Fail> {
     show_span(out, exp.span, spans)?;
     match &exp.form {
@@ -161,7 +147,10 @@ fn show_expression(out: &mut String, exp: &Exp, spans: bool) -> Result<(), Fail>
         ExpForm::List(exps) => show_listed(out, "(list", exps.as_slice(), spans)?,
         ExpForm::Seq(exps) => show_listed(out, "(seq", exps.as_slice(), spans)?,
         ExpForm::App(function, argument) => {
-            show_two(out, "(app ", function.get(), argument.get(), spans)?
+            out.push_str("(app ")?;
+            show_expression(out, function.get(), spans)?;
+            out.push_str(" ")?;
+            show_expression(out, argument.get(), spans)?;
         }
         ExpForm::Let(decs, exps) => {
             out.push_str("(let [")?;
@@ -187,12 +176,25 @@ fn show_expression(out: &mut String, exp: &Exp, spans: bool) -> Result<(), Fail>
             show_expression(out, body.get(), spans)?;
         }
         ExpForm::If(test, chosen, otherwise) => {
-            show_two(out, "(if ", test.get(), chosen.get(), spans)?;
+            out.push_str("(if ")?;
+            show_expression(out, test.get(), spans)?;
+            out.push_str(" ")?;
+            show_expression(out, chosen.get(), spans)?;
             out.push_str(" ")?;
             show_expression(out, otherwise.get(), spans)?;
         }
-        ExpForm::Both(left, right) => show_two(out, "(andalso ", left.get(), right.get(), spans)?,
-        ExpForm::Either(left, right) => show_two(out, "(orelse ", left.get(), right.get(), spans)?,
+        ExpForm::Both(left, right) => {
+            out.push_str("(andalso ")?;
+            show_expression(out, left.get(), spans)?;
+            out.push_str(" ")?;
+            show_expression(out, right.get(), spans)?;
+        }
+        ExpForm::Either(left, right) => {
+            out.push_str("(orelse ")?;
+            show_expression(out, left.get(), spans)?;
+            out.push_str(" ")?;
+            show_expression(out, right.get(), spans)?;
+        }
         ExpForm::Quote(pieces) => {
             out.push_str("(quote")?;
             show_pieces(out, pieces.as_slice(), spans)?;
