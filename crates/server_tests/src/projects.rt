@@ -213,8 +213,8 @@ fn project_files_are_read(rt: HostRuntime) -> Result<(), Fail> {
     for (word, numbered, end, most) in LIMITS {
         let full = many(alloc, most, word, numbered, end)?;
         assert!(rt; read_project(alloc, &full).is_ok(), "{most} lines {word}");
-        let over = many(alloc, most + 1, word, numbered, end)?;
-        let refusal = ProjectRefusal::Line(most + 2, LineFault::ProjectLine);
+        let over = many(alloc, most.saturating_add(1), word, numbered, end)?;
+        let refusal = ProjectRefusal::Line(most.saturating_add(2), LineFault::ProjectLine);
         assert!(rt;
             read_project(alloc, &over) == Err(refusal),
             "{most} and one more lines {word}"
