@@ -1,0 +1,37 @@
+//! Types of programs: a type for each expression and pattern, or the first item that has none.
+//!
+//! `infer` (`program`) looks for names without a binding, and then goes through the items with the names in scope and one table of types
+//! (`context`): patterns (`pattern`), expressions (`expression`), declarations of values (`declaration`, `bound`, `binding`), and those
+//! of types and exceptions (`type_declaration`, `written`, `equality`). It lists a class for each node on its way (`inference`).
+#![tactic(auto)]
+
+mod basis;
+mod binding;
+mod bound;
+mod context;
+mod declaration;
+mod equality;
+mod expression;
+mod inference;
+mod meaning;
+mod named;
+mod names;
+mod pattern;
+mod program;
+mod refusal;
+mod scope;
+mod steady;
+mod stop;
+mod ty_name;
+mod type_declaration;
+mod typed;
+mod types;
+mod unbound;
+mod uses;
+mod width;
+mod written;
+
+pub use program::infer;
+pub use refusal::TypeRefusal;
+pub use ty_name::TyName;
+pub use typed::Typed;
