@@ -108,7 +108,7 @@ piece-plain x e = ap out-Piece e ∙ ap out-Piece (sym (p.rolls-Plain x)) ∙ ou
 pub piece-anti : {f : Piece} (x : Exp) → f ≡ p.Anti x → out-Piece f ≡ Piece-F.Anti x
 piece-anti x e = ap out-Piece e ∙ ap out-Piece (sym (p.rolls-Anti x)) ∙ out-roll-Piece (Piece-F.Anti x)
 
-pub exp-int : {f : ExpForm} (x : ℕ) → f ≡ u.Int x → out-ExpForm f ≡ ExpForm-F.Int x
+pub exp-int : {f : ExpForm} (x : _) → f ≡ u.Int x → out-ExpForm f ≡ ExpForm-F.Int x
 exp-int x e = ap out-ExpForm e ∙ ap out-ExpForm (sym (u.rolls-Int x)) ∙ out-roll-ExpForm (ExpForm-F.Int x)
 
 pub exp-char : {f : ExpForm} (x : ℕ) → f ≡ u.Char x → out-ExpForm f ≡ ExpForm-F.Char x
@@ -125,3 +125,6 @@ pat-char x e = ap out-PatForm e ∙ ap out-PatForm (sym (w.rolls-Char x)) ∙ ou
 
 pub pat-str : {f : PatForm} (x : List ℕ) → f ≡ w.Str x → out-PatForm f ≡ PatForm-F.Str x
 pat-str x e = ap out-PatForm e ∙ ap out-PatForm (sym (w.rolls-Str x)) ∙ out-roll-PatForm (PatForm-F.Str x)
+
+pub pat-int : {f : PatForm} (x : _) → f ≡ w.Int x → out-PatForm f ≡ PatForm-F.Int x
+pat-int x e = ap out-PatForm e ∙ ap out-PatForm (sym (w.rolls-Int x)) ∙ out-roll-PatForm (PatForm-F.Int x)

@@ -1,2 +1,3 @@
 pub mod Forms
 pub mod Numberings
+pub mod Items

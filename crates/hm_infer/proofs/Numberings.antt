@@ -7,7 +7,7 @@ use Rattle.hm_infer.specs.Numbering.{Tree, trees_in, behind, Numbered, AllNumber
 -- one list after the other
 pub numbered-append : (ts us : List Tree) (a b c : ℕ) → AllNumbered ts a b → AllNumbered us b c → AllNumbered (ts ++ us) a c
 numbered-append [] us a b c numbered_end h = h
-numbered-append (t ∷ ts) us a b c (numbered_more {t} {ts} {from} {m} {to} n ns) h = numbered_more n (numbered-append ts us m b c ns h)
+numbered-append (x ∷ xs) us a b c (numbered_more {middle} n ns) h = numbered_more n (numbered-append xs us middle b c ns h)
 
 -- one tree, and two and three
 pub numbered-one : {t : Tree} {a b : ℕ} → Numbered t a b → AllNumbered (t ∷ []) a b
@@ -21,7 +21,7 @@ numbered-three n m k = numbered_more n (numbered-two m k)
 
 numbered-last : {A : Type 0} (f : A → Tree) (xs : List A) (x : A) (a b c : ℕ) → AllNumbered (map f xs) a b → Numbered (f x) b c → AllNumbered (map f (xs ++ x ∷ [])) a c
 numbered-last f [] x a b c numbered_end t = numbered-one t
-numbered-last f (y ∷ ys) x a b c (numbered_more {u} {ts} {from} {m} {to} n ns) t = numbered_more n (numbered-last f ys x m b c ns t)
+numbered-last f (y ∷ ys) x a b c (numbered_more {middle} n ns) t = numbered_more n (numbered-last f ys x middle b c ns t)
 
 -- a loop over a list: the next of it, and all of it
 pub numbered-next : {A : Type 0} (f : A → Tree) (xs : List A) (i : ℕ) (d x : A) (a b c : ℕ) → x ≡ get_or xs i d → i < length xs → AllNumbered (map f (take i xs)) a b → Numbered (f x) b c
@@ -39,12 +39,12 @@ on_ok-of (Err e) p = tt
 
 -- there is one count at most
 mutual
-  pub numbered-once : {t : Tree} {a d b c : ℕ} → a ≡ d → Numbered t a b → Numbered t d c → b ≡ c
-  numbered-once e (numbered {t} {a} {b} h) (numbered {u} {d} {c} k) = all-once (ap (behind t) e) h k
+  pub numbered-once : (t : Tree) {a d b c : ℕ} → a ≡ d → Numbered t a b → Numbered t d c → b ≡ c
+  numbered-once t e (numbered h) (numbered k) = all-once (trees_in t) (ap (behind t) e) h k
 
-  pub all-once : {ts : List Tree} {a d b c : ℕ} → a ≡ d → AllNumbered ts a b → AllNumbered ts d c → b ≡ c
-  all-once e numbered_end numbered_end = e
-  all-once e (numbered_more n ns) (numbered_more m ms) = all-once (numbered-once e n m) ns ms
+  pub all-once : (ts : List Tree) {a d b c : ℕ} → a ≡ d → AllNumbered ts a b → AllNumbered ts d c → b ≡ c
+  all-once [] e numbered_end numbered_end = e
+  all-once (t ∷ ts) e (numbered_more n ns) (numbered_more m ms) = all-once ts (numbered-once t e n m) ns ms
 
 -- a tree from its parts, where its own node is opened before them and closed behind them
 pub numbered-tree : (t : Tree) (a b c d : ℕ) → b ≡ behind t a → AllNumbered (trees_in t) b c → d ≡ c → Numbered t a d

@@ -36,7 +36,8 @@ impl Inference {
             }
             DecForm::ValRec(binds) => {
                 let group = self.context.begin_group(binds.as_slice())?;
-                for (i, bind) in binds.as_slice().iter().enumerate() {
+                let functions = binds.as_slice();
+                for (i, bind) in functions.iter().enumerate() {
                     let (from, to) = self.context.function_of(&group, i)?;
                     self.rules(bind.1.as_slice(), from, to)?;
                 }

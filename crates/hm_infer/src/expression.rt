@@ -77,7 +77,12 @@ impl Inference {
                 self.exp_of(otherwise.get(), class)?;
                 Ok(class)
             }
-            ExpForm::Both(left, right) | ExpForm::Either(left, right) => {
+            ExpForm::Both(left, right) => {
+                self.exp_of(left.get(), self.context.plain.bool)?;
+                self.exp_of(right.get(), self.context.plain.bool)?;
+                Ok(self.context.plain.bool)
+            }
+            ExpForm::Either(left, right) => {
                 self.exp_of(left.get(), self.context.plain.bool)?;
                 self.exp_of(right.get(), self.context.plain.bool)?;
                 Ok(self.context.plain.bool)

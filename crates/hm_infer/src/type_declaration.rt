@@ -138,6 +138,9 @@ impl Context {
         let mut numbers = Vec::new(self.alloc);
         for i in 0..binds.len() {
             let arity = binds[i].0.as_slice().len();
+            if arity > 4_294_967_295 {
+                return Err(Stop::NoMemory);
+            }
             let equal = chosen.get(i).copied().unwrap_or(false);
             let number = self.types.declare_datatype(arity as u32, equal)?;
             numbers.push(number)?;

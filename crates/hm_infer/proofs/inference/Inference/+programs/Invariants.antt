@@ -20,5 +20,5 @@ invariant-decs-loop-d l = AllNumbered (map a_dec (take l.d-index l.ds)) (length 
 abbrev pub invariant-dec-loop-bind : goal.invariant-dec-loop-bind
 invariant-dec-loop-bind l = AllNumbered (map a_binding (take l.bind-index l.bind-items)) (length l.fn.self.nodes.items) (length l.self.nodes.items)
 
-abbrev pub invariant-dec-loop-bind-2 : goal.invariant-dec-loop-bind-2
-invariant-dec-loop-bind-2 l = AllNumbered (map a_function (take l.i l.bind-items)) (length l.fn.self.nodes.items) (length l.self.nodes.items)
+abbrev pub invariant-dec-loop-i : goal.invariant-dec-loop-i
+invariant-dec-loop-i l = AllNumbered (map a_function (take l.i l.functions)) (length l.fn.self.nodes.items) (length l.self.nodes.items)
