@@ -1,6 +1,10 @@
 // The basis. Types are spelt by steps, each a letter that takes types from those before it: `i` int, `c` char, `s` string, `x` exn, `u` unit,
 // `b` bool, `o` order, `k` kind, `l` list, `p` option, `f` frag, `r` ref, `t` ty, `h` cache, `A` to `C` variables, `E` one
 // of types with equality, a digit a tuple, `>` a function.
+ghost use Rattle.std.specs.Prelude.{◌≡◌, map};
+ghost use Rattle.sml_syntax.specs.BasisTable.{basis_types};
+ghost use Rattle.hm_scheme.specs.Spellings.{type_row, value_rows, constant_rows, applied_rows};
+
 use hm_types::Equality;
 
 /// Types: name, how many arguments, and equality.
@@ -52,8 +56,8 @@ pub const APPLIED: [(&str, &str); 8] = [
     ("Fail", "sx>"),
 ];
 
-/// Values.
-pub const VALUES: [(&str, &str); 45] = [
+/// Values. `ref` is a constructor too, and that is what the name stands for.
+pub const VALUES: [(&str, &str); 46] = [
     ("+", "ii2i>"),
     ("-", "ii2i>"),
     ("*", "ii2i>"),
@@ -67,6 +71,7 @@ pub const VALUES: [(&str, &str); 45] = [
     ("=", "EE2b>"),
     ("<>", "EE2b>"),
     ("^", "ss2s>"),
+    ("ref", "AAr>"),
     ("!", "ArA>"),
     (":=", "ArA2u>"),
     ("ord", "ci>"),
@@ -113,6 +118,15 @@ pub const PRELUDE_LONG: [&str; 6] = [
 
 /// Names that no declaration binds.
 pub const FIXED: [&str; 6] = ["true", "false", "nil", "::", "ref", "="];
+
+/// The tables are those of the language, with their types spelt by steps.
+pub fn tables_spell_the_basis()
+    ensures types { map (λ row. type_row row.0.now row.1 row.2) TYPES ≡ basis_types }
+    ensures constants { map (λ row. (row.0.now, row.1.now)) CONSTANTS ≡ constant_rows }
+    ensures applied { map (λ row. (row.0.now, row.1.now)) APPLIED ≡ applied_rows }
+    ensures values { map (λ row. (row.0.now, row.1.now)) VALUES ≡ value_rows }
+{
+}
 
 /// Whether a name is one of these.
 pub fn is_among(name: &[u8], names: &[&str]) -> bool {

@@ -17,7 +17,7 @@ mod width;
 
 pub use basis::{
     APPLIED, CONSTANTS, FIXED, PRELUDE_LONG, TYPES, VALUES, has_variables, is_among, is_long,
-    may_construct, may_declare,
+    may_construct, may_declare, tables_spell_the_basis,
 };
 pub use meaning::{Meaning, Scheme, Status, TypeFunction, TypeMeaning};
 pub use names::Names;
