@@ -11,26 +11,25 @@ use std::process::Abort;
 use std::test::Fail;
 
 /// Pairs of types, spelt by steps, with whether some types for their variables make the two equal.
-const PAIRS: [(&str, bool); 16] = [
+const PAIRS: [(&str, bool); 15] = [
     ("iA2", true),
     ("ic2", false),
     ("AB>iA>2", true),
     ("AB>iA>l2", false),
-    ("AB2BC3i2", false),
+    ("AB2ABC32", false),
     // a type that holds itself, at once and by way of another
     ("AAl2", false),
     ("AB2BlAl22", false),
-    ("AB2BlClC3BA22", false),
     // equality: not at a function, but at a reference to one; an exception has none
     ("Eii>2", false),
     ("Eii>r2", true),
     ("Ex2", false),
-    // it is asked of the parts, before and after, and kept where two variables become one
-    ("EB2AA2ii>22", false),
-    ("EB2AA2ix22", false),
-    ("CB2AA2ii>22", true),
-    ("EA2AB2Bii>222", false),
-    ("EA2AB2Bil222", true),
+    // it is asked of the parts, of those that come later too, and kept where two variables become one
+    ("EA2AA2ii>22", false),
+    ("AE2ii>AA222", false),
+    ("BA2AA2ii>22", true),
+    ("EA2Aii>22", false),
+    ("EA2Ail22", true),
 ];
 
 /// Names, and whether `val`, and a declaration of constructors, may bind them.
@@ -166,8 +165,8 @@ fn what_is_no_class_or_name_is_refused(rt: HostRuntime) -> Result<(), Fail> {
     assert!(rt; types.list(count) == Err(Stop::Ill));
     assert!(rt; types.tuple(&[0]) == Err(Stop::Ill) && types.tuple(&[0, 0, 0, 0, 0, 0]) == Err(Stop::Ill));
     assert!(rt; types.part(0, 0) == Err(Stop::Ill) && types.copy(count, 0) == Err(Stop::Ill));
-    assert!(rt; types.spelt(b"A2".as_slice()) == Err(Stop::Ill));
     assert!(rt; types.mark() == count && types.table.is_solved());
+    assert!(rt; types.spelt(b"A2".as_slice()) == Err(Stop::Ill));
     Ok(())
 }
 

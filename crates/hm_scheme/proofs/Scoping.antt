@@ -1,8 +1,8 @@
 -- Bindings with places: what is true of them after one more, and after one less.
-use Rattle.std.proofs.Common.{◌≡◌, ◌≢◌, ℕ, zero, suc, ◌+◌, ◌-◌, ◌<◌, ◌≤◌, ◌⊎◌, inl, inr, Bool, true, false, cond, ◌==◌, List, [], ◌∷◌, ◌++◌, length, take, drop, map, set, get_or, Option, Some, None, IfSome, refl, ap, sym, ◌∙◌, subst, arith, get_or-set_same, get_or-set_other, take_at, below_more}
+use Rattle.std.proofs.Common.{◌≡◌, ◌≢◌, ℕ, zero, suc, ◌+◌, ◌-◌, ◌<◌, ◌≤◌, ◌⊎◌, inl, inr, Bool, true, false, cond, ◌==◌, List, [], ◌∷◌, ◌++◌, length, take, drop, map, set, get_or, Option, Some, None, IfSome, refl, ap, sym, ◌∙◌, subst, arith, append_assoc, get_or-set_same, get_or-set_other, take_at, below_more}
 use Rattle.std.proofs.lemmas.Bool.{eqb-true, eq-eqb, cases_eq, cases_lt}
 use Rattle.std.proofs.lemmas.Bool.Decides.{Decides-eqb}
-use Rattle.std.proofs.lemmas.List.{get_or_push, get_or_past, length_push, get_or_append_left, take-append-le, map_push, take-take, take_all}
+use Rattle.std.proofs.lemmas.List.{get_or_push, get_or_past, length_push, get_or_append_left, take-append-le, take_more, map_push}
 use Rattle.hm_scheme.specs.declared.scope.Bound.{Bound}
 use Rattle.hm_scheme.specs.Bindings.{Binding, meaning_in, first_of_two, shown, place_after, last_place, bound_at, IsIndexed}
 
@@ -116,3 +116,19 @@ indexed-pop bs b places x = record {
         subst (λ n. get_or (set places b.name b.outer) n None ≡ last_place bs n) e (get_or-set_same places b.name b.outer None (indexed-room bs b places x) ∙ last)
     by name (inr n) =
         get_or-set_other places b.name name b.outer None (λ e. n (sym e)) ∙ x.inner name ∙ last_place-other bs b name n
+
+-- ---- what a look-up finds
+
+pub found : (bs : List Bound) (places : List (Option ℕ)) (name i : ℕ) → IsIndexed bs places → Some i ≡ get_or places name None → (i < length bs) × (meaning_in (shown bs) name ≡ Some ((bound_at bs i).meaning))
+found bs places name i x e =
+    let h : last_place bs name ≡ Some i = sym (e ∙ x.inner name) in
+    (subst (λ p. IfSome p (λ j. j < length bs)) h (last_place-within bs name), meaning_in-shown bs name ∙ ap (meaning_at bs) h)
+
+pub not_found : (bs : List Bound) (places : List (Option ℕ)) (name : ℕ) → IsIndexed bs places → None ≡ get_or places name None → meaning_in (shown bs) name ≡ None
+not_found bs places name x e = meaning_in-shown bs name ∙ ap (meaning_at bs) (sym (e ∙ x.inner name))
+
+-- ---- bindings one after the other
+
+pub shown-more : (base : List Binding) (bs : List Bound) (i : ℕ) (b : Bound) → i < length bs → b ≡ get_or bs i b → (base ++ shown (take i bs)) ++ (b.name, b.meaning) ∷ [] ≡ base ++ shown (take (i + 1) bs)
+shown-more base bs i b l e =
+    append_assoc base (shown (take i bs)) _ ∙ ap (λ z. base ++ z) (sym (ap shown (take_more bs i b l ∙ ap (λ y. take i bs ++ y ∷ []) (sym e)) ∙ map_push (λ x. (x.name, x.meaning)) (take i bs) b))

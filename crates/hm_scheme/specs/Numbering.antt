@@ -1,13 +1,22 @@
 -- Names with numbers, different ones for different names. Of this project.
-use Rattle.std.specs.Prelude.{◌≡◌, ℕ, ◌<◌, List, Option, Some}
+use Rattle.std.specs.Prelude.{◌≡◌, ℕ, ◌<◌, List, map, Option, Some}
 use Rattle.std.specs.Str.{bytes_eq}
 use Rattle.std.specs.declared.alloc.Global.{Global}
 use Rattle.std.specs.declared.vec.Vec.{Vec}
-use Rattle.std.specs.HashMap.{HashMap, get_by}
+use Rattle.std.specs.Map.{lookup}
+use Rattle.std.specs.HashMap.{HashMap}
 
--- the number of a name in a table of numbers by names
-abbrev pub number_in : {S : Type 0} → HashMap (Vec ℕ Global) ℕ S → List ℕ → Option ℕ
-number_in numbers name = get_by (λ key. bytes_eq name key.items) numbers
+-- names with their numbers
+abbrev pub Numbered : Type 0
+Numbered = List (List ℕ × ℕ)
+
+-- those of a table
+abbrev pub shown_numbers : {S : Type 0} → HashMap (Vec ℕ Global) ℕ S → Numbered
+shown_numbers numbers = map (λ e. (e.0.items, e.1)) numbers.entries
+
+-- the number of a name
+abbrev pub number_in : Numbered → List ℕ → Option ℕ
+number_in numbers name = lookup (bytes_eq name) numbers
 
 -- the numbers are below a bound, and no two names have the same one
 pub record IsNumbering (number_of : List ℕ → Option ℕ) (bound : ℕ) : Type 0 where

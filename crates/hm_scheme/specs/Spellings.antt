@@ -21,13 +21,13 @@ abbrev pub variable_step : Bool → ℕ → List ℕ
 variable_step true n = codes "E"
 variable_step false n = (65 + n) ∷ []
 
-mutual
-  abbrev pub spelling : BasisScheme → List ℕ
+abbrev mutual
+  pub spelling : BasisScheme → List ℕ
   spelling (place equality n) = variable_step equality n
   spelling (plain t) = []
   spelling (open_made f ss) = spellings ss ++ step_of f
 
-  abbrev pub spellings : Schemes TypeName → List ℕ
+  pub spellings : Schemes TypeName → List ℕ
   spellings no_schemes = []
   spellings (schemes s ss) = spelling s ++ spellings ss
 

@@ -75,8 +75,10 @@ impl Scope {
     pub fn find(&self, name: u32) -> Option<u32>
         ensures { result ≡ meaning_in self.now name }
     {
-        let place = place_of(&self.innermost, name)?;
-        self.bounds.get(place as usize).map(|bound| bound.meaning)
+        match place_of(&self.innermost, name) {
+            Some(place) => Some(self.bounds[place as usize].meaning),
+            None => None,
+        }
     }
 
     /// Adds a binding, which hides those of the same name.

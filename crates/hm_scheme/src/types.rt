@@ -10,7 +10,7 @@ ghost use Rattle.hm_scheme.specs.declared.refusal.Stop.TheVariants as stop;
 use crate::basis::TYPES;
 use crate::refusal::Stop;
 use crate::type_name::TyName;
-use hm_types::{Equality, TypeTable};
+use hm_types::{Equality, TypeTable, UnifyRefusal};
 use sml_syntax::NoMemory;
 use std::alloc::Global;
 
@@ -218,8 +218,11 @@ impl Types {
         if a >= count || b >= count {
             return Err(Stop::Ill);
         }
-        self.table.unify(a, b)?;
-        Ok(())
+        match self.table.unify(a, b) {
+            Ok(()) => Ok(()),
+            Err(UnifyRefusal::Clash) => Err(Stop::Ill),
+            Err(UnifyRefusal::NoMemory) => Err(Stop::NoMemory),
+        }
     }
 
     /// A copy of what isn't older than the mark.
