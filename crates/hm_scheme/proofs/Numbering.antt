@@ -23,8 +23,8 @@ numbering-more f g name c i a = record {
   below = λ q n e. number-cases f g name c a (n < c + 1) q n e (λ _ h. omega (arith, h)) (λ h. let l = i.below q n h in omega (arith, l));
   apart = λ p q n d e. number-cases f g name c a (p ≡ q) p n d
       (λ x h. number-cases f g name c a (p ≡ q) q n e (λ y _. sym x ∙ y) (λ old. let l = i.below q n old in absurd (omega (arith, h, l))))
-      (λ was. number-cases f g name c a (p ≡ q) q n e (λ _ h. let l = i.below p n was in absurd (omega (arith, h, l))) (λ old. i.apart p q n was old))
-  }
+      (λ was. number-cases f g name c a (p ≡ q) q n e (λ _ h. let l = i.below p n was in absurd (omega (arith, h, l))) (λ old. i.apart p q n was old));
+}
 
 pub number-here : (f g : List ℕ → Option ℕ) (name : List ℕ) (c : ℕ) → Adds f g name c → g name ≡ Some c
 number-here f g name c a = a name ∙ ap (λ b. cond b (Some c) (f name)) ((bytes_eq-Decides name name).1 refl)
@@ -89,5 +89,5 @@ next m n key name c was i e none w len count u =
     record {
       is = subst (IsNumbering g) (sym longer) (numbering-more f g name c (subst (IsNumbering f) (sym count) i) a);
       here = number-here f g name c a;
-      kept = number-kept f g name c none a
+      kept = number-kept f g name c none a;
     }

@@ -1,8 +1,8 @@
 -- Bindings with places: what is true of them after one more, and after one less.
-use Rattle.std.proofs.Common.{◌≡◌, ◌≢◌, ℕ, zero, suc, ◌+◌, ◌-◌, ◌<◌, ◌≤◌, ◌⊎◌, inl, inr, Bool, true, false, cond, ◌==◌, List, [], ◌∷◌, ◌++◌, length, take, drop, map, set, get_or, Option, Some, None, IfSome, refl, ap, sym, ◌∙◌, subst, arith, append_assoc, get_or-set_same, get_or-set_other, take_at, below_more}
+use Rattle.std.proofs.Common.{◌≡◌, ◌≢◌, ℕ, zero, suc, ◌+◌, ◌-◌, ◌<◌, ◌≤◌, ◌⊎◌, inl, inr, Bool, true, false, cond, ◌==◌, List, [], ◌∷◌, ◌++◌, length, take, drop, map, set, get_or, Option, Some, None, IfSome, refl, ap, sym, ◌∙◌, subst, arith, min, append_assoc, get_or-set_same, get_or-set_other, take_at, below_more}
 use Rattle.std.proofs.lemmas.Bool.{eqb-true, eq-eqb, cases_eq, cases_lt}
 use Rattle.std.proofs.lemmas.Bool.Decides.{Decides-eqb}
-use Rattle.std.proofs.lemmas.List.{get_or_push, get_or_past, length_push, get_or_append_left, take-append-le, take_more, map_push}
+use Rattle.std.proofs.lemmas.List.{get_or_push, get_or_past, length_push, get_or_append_left, take-append-le, take_more, map_push, take_rest, drop_min, drop-map}
 use Rattle.hm_scheme.specs.declared.scope.Bound.{Bound}
 use Rattle.hm_scheme.specs.Bindings.{Binding, meaning_in, first_of_two, shown, place_after, last_place, bound_at, IsIndexed}
 
@@ -82,8 +82,8 @@ pub indexed-push : (bs : List Bound) (places room : List (Option ℕ)) (b : Boun
 indexed-push bs places room b x same l o = record {
   inner = λ name. by name (cases_eq b.name name);
   outer = λ i h. below_more (λ k. Outer (bs ++ b ∷ []) k) (length bs) (λ k g. subst (λ T. T) (sym (outer-left bs b k g)) (x.outer k g))
-      (outer-here bs b (o ∙ same b.name ∙ x.inner b.name)) i (subst (λ n. i < n) (length_push bs b) h)
-  }
+      (outer-here bs b (o ∙ same b.name ∙ x.inner b.name)) i (subst (λ n. i < n) (length_push bs b) h);
+}
   where
     by : (name : ℕ) → (b.name ≡ name) ⊎ (b.name ≡ name → ⊥) → get_or (set room b.name (Some (length bs))) name None ≡ last_place (bs ++ b ∷ []) name
     by name (inl e) =
@@ -102,8 +102,8 @@ indexed-room bs b places x = by (cases_lt b.name (length places))
 pub indexed-pop : (bs : List Bound) (b : Bound) (places : List (Option ℕ)) → IsIndexed (bs ++ b ∷ []) places → IsIndexed bs (set places b.name b.outer)
 indexed-pop bs b places x = record {
   inner = λ name. by name (cases_eq b.name name);
-  outer = λ i h. subst (λ T. T) (outer-left bs b i h) (x.outer i (subst (λ n. i < n) (sym (length_push bs b)) (omega (arith, h))))
-  }
+  outer = λ i h. subst (λ T. T) (outer-left bs b i h) (x.outer i (subst (λ n. i < n) (sym (length_push bs b)) (omega (arith, h))));
+}
   where
     last : b.outer ≡ last_place bs b.name
     last =
@@ -129,6 +129,10 @@ not_found bs places name x e = meaning_in-shown bs name ∙ ap (meaning_at bs) (
 
 -- ---- bindings one after the other
 
-pub shown-more : (base : List Binding) (bs : List Bound) (i : ℕ) (b : Bound) → i < length bs → b ≡ get_or bs i b → (base ++ shown (take i bs)) ++ (b.name, b.meaning) ∷ [] ≡ base ++ shown (take (i + 1) bs)
-shown-more base bs i b l e =
-    append_assoc base (shown (take i bs)) _ ∙ ap (λ z. base ++ z) (sym (ap shown (take_more bs i b l ∙ ap (λ y. take i bs ++ y ∷ []) (sym e)) ∙ map_push (λ x. (x.name, x.meaning)) (take i bs) b))
+pub shown-more : (base : List Binding) (bs : List Bound) (i : ℕ) → i < length bs → (base ++ shown (take i bs)) ++ ((bound_at bs i).name, (bound_at bs i).meaning) ∷ [] ≡ base ++ shown (take (i + 1) bs)
+shown-more base bs i l =
+    append_assoc base (shown (take i bs)) _ ∙ ap (λ z. base ++ z) (sym (ap shown (take_more bs i _ l) ∙ map_push (λ b. (b.name, b.meaning)) (take i bs) (bound_at bs i)))
+
+pub shown-inside : (xs ys kept : List Bound) (depth from len : ℕ) → ys ≡ xs → from ≡ min depth len → len ≡ length xs → kept ≡ take (length ys - from) (drop from ys) → shown kept ≡ drop depth (shown xs)
+shown-inside xs ys kept depth from len same f l k =
+    ap shown (k ∙ take_rest ys from ∙ ap (drop from) same ∙ ap (λ n. drop n xs) (f ∙ ap (min depth) l) ∙ drop_min depth xs) ∙ sym (drop-map (λ b. (b.name, b.meaning)) depth xs)

@@ -125,8 +125,7 @@ pub fn tables_spell_the_basis()
     ensures constants { map (λ row. (row.0.now, row.1.now)) CONSTANTS ≡ constant_rows }
     ensures applied { map (λ row. (row.0.now, row.1.now)) APPLIED ≡ applied_rows }
     ensures values { map (λ row. (row.0.now, row.1.now)) VALUES ≡ value_rows }
-{
-}
+{}
 
 /// Whether a name is one of these.
 pub fn is_among(name: &[u8], names: &[&str]) -> bool {

@@ -1,6 +1,6 @@
 // Names as numbers.
-ghost use Rattle.std.specs.Prelude.{◌≡◌, ℕ, List, [], Some, IfOk};
-ghost use Rattle.hm_scheme.specs.Numbering.{number_in};
+ghost use Rattle.std.specs.Prelude.{◌≡◌, [], None, Some, IfOk};
+ghost use Rattle.hm_scheme.specs.Numbering.{number_in, AllApart, HasNumbersOf};
 
 use sml_syntax::NoMemory;
 use std::alloc::Global;
@@ -37,12 +37,30 @@ impl Names {
     /// The number of a name: a new one where it wasn't met before.
     pub fn number(&mut self, alloc: Global, name: &[u8]) -> Result<u32, NoMemory>
         ensures number { IfOk result (λ n. number_in self.new name.now ≡ Some n) }
-        ensures keeps { (other : List ℕ) (n : ℕ) → number_in self.old other ≡ Some n → number_in self.new other ≡ Some n }
-        ensures apart { (one other : List ℕ) (n : ℕ) → number_in self.new one ≡ Some n → number_in self.new other ≡ Some n → one ≡ other }
+        ensures keeps { HasNumbersOf self.old self.new }
+        ensures apart { AllApart self.new }
     {
-        if let Some(number) = self.known(name) {
-            return Ok(number);
+        match self.known(name) {
+            Some(number) => Ok(number),
+            None => self.enter(alloc, name),
         }
+    }
+
+    // The number of a name that was met.
+    fn known(&self, name: &[u8]) -> Option<u32>
+        ensures number { result ≡ number_in self.now name.now }
+        ensures apart { AllApart self.now }
+    {
+        self.numbers.get(name).copied()
+    }
+
+    // Gives a new name the next number.
+    fn enter(&mut self, alloc: Global, name: &[u8]) -> Result<u32, NoMemory>
+        requires { number_in self.old name.now ≡ None }
+        ensures number { IfOk result (λ n. number_in self.new name.now ≡ Some n) }
+        ensures keeps { HasNumbersOf self.old self.new }
+        ensures apart { AllApart self.new }
+    {
         let count = self.numbers.len();
         if count >= 4_294_967_295 {
             return Err(NoMemory);
@@ -50,12 +68,5 @@ impl Names {
         let owned = Vec::from_slice(alloc, name)?;
         self.numbers.insert(owned, count as u32)?;
         Ok(count as u32)
-    }
-
-    // The number of a name that was met.
-    fn known(&self, name: &[u8]) -> Option<u32>
-        ensures { result ≡ number_in self.now name.now }
-    {
-        self.numbers.get(name).copied()
     }
 }

@@ -136,9 +136,6 @@ impl Scope {
         ensures { IfOk result (λ kept. shown kept.items ≡ drop depth self.now) }
     {
         let from = depth.min(self.bounds.len());
-        Ok(Vec::from_slice(
-            *self.bounds.allocator(),
-            &self.bounds[from..],
-        )?)
+        Ok(Vec::from_slice(*self.bounds.allocator(), &self.bounds[from..])?)
     }
 }

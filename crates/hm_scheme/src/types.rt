@@ -265,7 +265,12 @@ impl Types {
     }
 
     // The class that a step makes.
-    fn step(&mut self, variables: &mut [Option<u32>; 4], stack: &mut Vec<u32>, step: u8) -> Result<u32, Stop> {
+    fn step(
+        &mut self,
+        variables: &mut [Option<u32>; 4],
+        stack: &mut Vec<u32>,
+        step: u8,
+    ) -> Result<u32, Stop> {
         match step {
             b'A' => self.variable(&mut variables[0], false),
             b'B' => self.variable(&mut variables[1], false),

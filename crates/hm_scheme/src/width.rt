@@ -58,7 +58,8 @@ fn pats_width(ps: &[Pat]) -> u32 {
 #[cycle(widths)]
 fn exp_width(e: &Exp) -> u32 {
     match &e.form {
-        ExpForm::Int(_) | ExpForm::Char(_) | ExpForm::Str(_) | ExpForm::Name(_) | ExpForm::Unit => 0,
+        ExpForm::Int(_) | ExpForm::Char(_) | ExpForm::Str(_) | ExpForm::Name(_) | ExpForm::Unit =>
+            0,
         ExpForm::Tuple(es) => parts(es.as_slice().len()).max(exps_width(es.as_slice())),
         ExpForm::List(es) | ExpForm::Seq(es) => exps_width(es.as_slice()),
         ExpForm::App(left, right) | ExpForm::Both(left, right) | ExpForm::Either(left, right) => {
