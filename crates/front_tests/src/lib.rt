@@ -1,4 +1,4 @@
-//! Tests of tokens and trees, in a crate of their own: a crate with tests is proved twice.
+//! Tests of tokens, trees and tables of types, in a crate of their own: a crate with tests is proved twice.
 #![tactic(auto)]
 
 #[cfg(test)]
@@ -11,3 +11,5 @@ mod copies;
 mod lex_table;
 #[cfg(test)]
 mod parse_table;
+#[cfg(test)]
+mod type_table;

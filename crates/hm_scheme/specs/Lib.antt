@@ -1,0 +1,5 @@
+pub mod Stops
+pub mod Numbering
+pub mod Bindings
+pub mod Spellings
+pub mod Making
