@@ -1,0 +1,105 @@
+-- The least place that something holds of, and what a search for it has seen. Of this project.
+use Rattle.std.specs.Prelude.{◌≡◌, ◌⊎◌, ℕ, ◌≤◌, nat_lt, cond, List, [], ◌∷◌, Option, Some, None}
+use Rattle.sml_syntax.specs.declared.tree.Exp.{Exp}
+use Rattle.sml_syntax.specs.declared.tree.Pat.{Pat}
+use Rattle.sml_syntax.specs.declared.tree.Ty.{Ty}
+use Rattle.sml_syntax.specs.declared.tree.Dec.{Dec}
+use Rattle.sml_syntax.specs.declared.tree.Rule.{Rule}
+use Rattle.sml_syntax.specs.declared.tree.Piece.{Piece}
+use Rattle.sml_syntax.specs.Scope.{Names, IsOneOf, Binds, BindsAll, Adds, AddsAll, inside, variables_only, antiquoted, Constructors, UnboundInType, UnboundInPat, UnboundInExp, UnboundInRule, UnboundInDec, UnboundInDecs, first_parts, TypeBinding, DatatypeBinding, as_constructors, constructor_names, type_names, datatype_names}
+
+-- the least place that P holds of, none where it holds of none
+abbrev pub IsLeast : (ℕ → Type 0) → Option ℕ → Type 0
+IsLeast P None = (p : ℕ) → P p → ⊥
+IsLeast P (Some place) = P place × ((p : ℕ) → P p → place ≤ p)
+
+-- A search: the names in scope, and the least place found so far.
+pub record Seen : Type 0 where
+  pub names : Names
+  pub first : Option ℕ
+
+-- the place is the one found before, or one that P holds of
+abbrev pub With : Option ℕ → (ℕ → Type 0) → ℕ → Type 0
+With found P p = (found ≡ Some p) ⊎ P p
+
+-- the search has seen all that P holds of; the names are as before
+pub record Sees (P : ℕ → Type 0) (old new : Seen) : Type 0 where
+  pub same : new.names ≡ old.names
+  pub least : IsLeast (With old.first P) new.first
+
+-- P holds of the place for one of the list
+abbrev pub Some_of : {A : Type 0} → (A → ℕ → Type 0) → List A → ℕ → Type 0
+Some_of {A} P xs place = (x : A) × IsOneOf x xs × P x place
+
+-- the same, where a declaration has added these names
+pub record SeesDec (d : Dec) (old new : Seen) : Type 0 where
+  pub more : Names
+  pub adds : Adds old.names d more
+  pub names : new.names ≡ inside more old.names
+  pub least : IsLeast (With old.first (UnboundInDec old.names d)) new.first
+
+pub record SeesDecs (ds : List Dec) (old new : Seen) : Type 0 where
+  pub more : Names
+  pub adds : AddsAll old.names ds more
+  pub names : new.names ≡ inside more old.names
+  pub least : IsLeast (With old.first (UnboundInDecs old.names ds)) new.first
+
+-- in the argument of one constructor
+abbrev pub InArgument : Names → List (List ℕ) → List ℕ × Option Ty → ℕ → Type 0
+InArgument scope variables constructor place = (t : Ty) × (constructor.1 ≡ Some t) × UnboundInType scope variables t place
+
+-- in the argument of one of the constructors
+abbrev pub InArguments : Names → List (List ℕ) → Constructors → ℕ → Type 0
+InArguments scope variables = Some_of (InArgument scope variables)
+
+-- in a part of a quotation
+abbrev pub InPiece : Names → Piece → ℕ → Type 0
+InPiece scope piece = Some_of (UnboundInExp scope) (antiquoted (piece ∷ []))
+
+-- in the declarations of `let`, or in one of its expressions
+abbrev pub InLet : Names → List Dec → List Exp → ℕ → Type 0
+InLet scope ds es place = UnboundInDecs scope ds place ⊎ ((more : Names) × AddsAll scope ds more × Some_of (UnboundInExp (inside more scope)) es place)
+
+-- in the hidden or in the shown declarations of `local`
+abbrev pub InLocal : Names → List Dec → List Dec → ℕ → Type 0
+InLocal scope hidden shown place = UnboundInDecs scope hidden place ⊎ ((more : Names) × AddsAll scope hidden more × UnboundInDecs (inside more scope) shown place)
+
+-- in a binding of `val`
+abbrev pub InBinding : Names → Pat × Exp → ℕ → Type 0
+InBinding scope bind place = UnboundInPat scope bind.0 place ⊎ UnboundInExp scope bind.1 place
+
+-- bindings of `val` were seen, and have added their names
+pub record SeesVal (binds : List (Pat × Exp)) (old new : Seen) : Type 0 where
+  pub names : List (List ℕ)
+  pub binds_names : BindsAll old.names (first_parts binds) names
+  pub scope : new.names ≡ inside (variables_only names) old.names
+  pub least : IsLeast (With old.first (Some_of (InBinding old.names) binds)) new.first
+
+-- functions have added their names, and were seen inside them
+pub record SeesFunctions (binds : List (List ℕ × List Rule)) (old new : Seen) : Type 0 where
+  pub scope : new.names ≡ inside (variables_only (first_parts binds)) old.names
+  pub least : IsLeast (With old.first (Some_of (λ bind. Some_of (UnboundInRule new.names) bind.1) binds)) new.first
+
+-- `local` was seen, and has added the names of its shown declarations
+pub record SeesLocal (hidden shown : List Dec) (old new : Seen) : Type 0 where
+  pub first : Names
+  pub second : Names
+  pub adds_hidden : AddsAll old.names hidden first
+  pub adds_shown : AddsAll (inside first old.names) shown second
+  pub names : new.names ≡ inside second old.names
+  pub least : IsLeast (With old.first (InLocal old.names hidden shown)) new.first
+
+-- abbreviations were seen, and have added their names
+pub record SeesAbbreviations (binds : List TypeBinding) (old new : Seen) : Type 0 where
+  pub names : new.names ≡ inside (record { values = []; types = type_names binds }) old.names
+  pub least : IsLeast (With old.first (Some_of (λ bind. UnboundInType old.names bind.0 bind.2) binds)) new.first
+
+-- datatypes were seen inside their names, and have added these and their constructors
+pub record SeesDatatypes (binds : List DatatypeBinding) (old new : Seen) : Type 0 where
+  pub names : new.names ≡ inside (record { values = as_constructors (constructor_names binds); types = datatype_names binds }) old.names
+  pub least : IsLeast (With old.first (Some_of (λ bind. InArguments (inside (record { values = []; types = datatype_names binds }) old.names) bind.0 bind.2) binds)) new.first
+
+-- exceptions were seen, and have added their constructors
+pub record SeesExceptions (binds : Constructors) (old new : Seen) : Type 0 where
+  pub names : new.names ≡ inside (record { values = as_constructors (first_parts binds); types = [] }) old.names
+  pub least : IsLeast (With old.first (InArguments old.names [] binds)) new.first
