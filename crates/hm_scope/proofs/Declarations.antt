@@ -10,7 +10,7 @@ use Rattle.sml_syntax.specs.declared.tree.DecForm.TheOpen.{DecForm-F}
 use Rattle.sml_syntax.specs.Layers.{DecLayer, form_of_dec}
 use Rattle.sml_syntax.specs.Scope.{Names, IsOneOf, first_one, other_one, Binds, BindsAll, binds_end, binds_more, Adds, AddsAll, adds_val, adds_rec, adds_abbrev, adds_data, adds_exn, adds_local, inside, variables_only, as_variables, as_constructors, TypeBinding, DatatypeBinding, Constructors, first_parts, type_names, datatype_names, constructor_names, UnboundInType, UnboundInPat, UnboundInExp, UnboundInRule, UnboundInDec, UnboundInDecs, in_val_pattern, in_val, in_function, in_abbreviation, in_datatype, in_exception, in_hidden, in_shown}
 use Rattle.hm_scope.specs.Least.{IsLeast, With, Seen, Sees, Some_of, SeesDec, SeesDecs, SeesVal, SeesFunctions, SeesLocal, SeesAbbreviations, SeesDatatypes, SeesExceptions, InArgument, InArguments, InBinding, InLocal}
-use Rattle.hm_scope.proofs.Leasts.{Lowers, lowers-then, lowers-to, sees-then, sees-to, sees-none, sees-next, of-none}
+use Rattle.hm_scope.proofs.Leasts.{Lowers, lowers-then, lowers-to, sees-then, sees-to, sees-none, sees-nil, sees-next, of-none}
 use Rattle.hm_scope.proofs.Names.{binds-all-end}
 use Rattle.hm_scope.proofs.Scopes.{added}
 
@@ -120,12 +120,26 @@ sees-exceptions binds a b c s v t f = record {
   least = subst (λ z. Lowers (InArguments a.names [] binds) a.first z) (sym f) s.least;
 }
 
-pub sees-functions : (binds : List (List ℕ × List Rule)) (a b c : Seen) → b.names.values ≡ as_variables (first_parts binds) ++ a.names.values → b.names.types ≡ a.names.types → b.first ≡ a.first
-    → Sees (Some_of (λ (bind : List ℕ × List Rule). Some_of (UnboundInRule b.names) bind.1) binds) b c → SeesFunctions binds a c
-sees-functions binds a b c v t f s = record {
-  scope = s.same ∙ added a b (variables_only (first_parts binds)) v t;
-  least = subst (λ n. Lowers (Some_of (λ (bind : List ℕ × List Rule). Some_of (UnboundInRule n) bind.1) binds) a.first c.first) (sym s.same)
-      (subst (λ z. Lowers (Some_of (λ (bind : List ℕ × List Rule). Some_of (UnboundInRule b.names) bind.1) binds) z c.first) f s.least);
+-- functions: all names are in scope, and these matches were seen
+abbrev pub FunctionsSeen : List (List ℕ × List Rule) → List (List ℕ × List Rule) → Seen → Seen → Type 0
+FunctionsSeen binds done a b = (b.names ≡ inside (variables_only (first_parts binds)) a.names) × Lowers (Some_of (λ (bind : List ℕ × List Rule). Some_of (UnboundInRule b.names) bind.1) done) a.first b.first
+
+pub functions-start : (binds : List (List ℕ × List Rule)) (a b : Seen) → b.names.values ≡ as_variables (first_parts binds) ++ a.names.values → b.names.types ≡ a.names.types → b.first ≡ a.first → FunctionsSeen binds [] a b
+functions-start binds a b v t f =
+    (added a b (variables_only (first_parts binds)) v t,
+     subst (λ z. Lowers (Some_of (λ (bind : List ℕ × List Rule). Some_of (UnboundInRule b.names) bind.1) []) z b.first) f
+       (sees-nil (λ (bind : List ℕ × List Rule). Some_of (UnboundInRule b.names) bind.1) b).least)
+
+pub functions-next : (binds : List (List ℕ × List Rule)) (i : ℕ) (d x : List ℕ × List Rule) (a b c : Seen) → x ≡ get_or binds i d → i < length binds → FunctionsSeen binds (take i binds) a b
+    → Sees (Some_of (UnboundInRule b.names) x.1) b c → FunctionsSeen binds (take (i + 1) binds) a c
+functions-next binds i d x a b c e h g s =
+    (s.same ∙ g.0, subst (λ n. Lowers (Some_of (λ (bind : List ℕ × List Rule). Some_of (UnboundInRule n) bind.1) (take (i + 1) binds)) a.first c.first) (sym s.same)
+      (sees-next (λ n (bind : List ℕ × List Rule). Some_of (UnboundInRule n) bind.1) binds i d x (record { names = b.names; first = a.first }) b c e h (record { same = refl; least = g.1 }) s).least)
+
+pub functions-whole : (binds : List (List ℕ × List Rule)) (i : ℕ) (a b : Seen) → length binds ≤ i → FunctionsSeen binds (take i binds) a b → SeesFunctions binds a b
+functions-whole binds i a b h g = record {
+  scope = g.0;
+  least = subst (λ l. Lowers (Some_of (λ (bind : List ℕ × List Rule). Some_of (UnboundInRule b.names) bind.1) l) a.first b.first) (take_all i binds h) g.1;
 }
 
 -- `val`: a binding more, and all of them

@@ -183,9 +183,14 @@ hide-steps xs s h n a b c d o i m e l k q be ce de ae =
     ∙ hide-list xs s h n o i e l k
 
 -- a name is put before those that were put already
+put-before : (k : Bool) (names : List (List ℕ)) (m : ℕ) (d x : List ℕ) (old items : List (List ℕ × Bool)) → x ≡ get_or names m d → m < length names
+    → reverse items ≡ map (λ name. (name, k)) (drop (suc m) names) ++ old → reverse (items ++ (x, k) ∷ []) ≡ map (λ name. (name, k)) (drop m names) ++ old
+put-before k names m d x old items e l i =
+    reverse-append items ((x, k) ∷ []) ∙ ap (λ y. (x, k) ∷ y) i ∙ ap (λ y. (y, k) ∷ (map (λ name. (name, k)) (drop (suc m) names) ++ old)) e
+    ∙ ap (λ y. map (λ name. (name, k)) y ++ old) (sym (drop-cons names m d l))
+
 pub put-step : (k : Bool) (names : List (List ℕ)) (left : ℕ) (d x : List ℕ) (old items : List (List ℕ × Bool)) → x ≡ get_or names (left - 1) d → 0 < left → left ≤ length names
     → reverse items ≡ map (λ name. (name, k)) (drop left names) ++ old → reverse (items ++ (x, k) ∷ []) ≡ map (λ name. (name, k)) (drop (left - 1) names) ++ old
-put-step k names zero d x old items e z l i = absurd (omega (arith, z))
-put-step k names (suc m) d x old items e z l i =
-    reverse-append items ((x, k) ∷ []) ∙ ap (λ y. (x, k) ∷ y) i ∙ ap (λ y. (y, k) ∷ (map (λ name. (name, k)) (drop (suc m) names) ++ old)) e
-    ∙ ap (λ y. map (λ name. (name, k)) y ++ old) (sym (drop-cons names m d (omega (arith, l))))
+put-step k names left d x old items e z l i =
+    let up : left ≡ suc (left - 1) = omega (arith, z) in
+    put-before k names (left - 1) d x old items e (omega (arith, z, l)) (subst (λ n. reverse items ≡ map (λ name. (name, k)) (drop n names) ++ old) up i)

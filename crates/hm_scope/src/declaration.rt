@@ -1,10 +1,10 @@
 // Declarations: each leaves the names that it adds in scope.
 ghost use Rattle.std.specs.Prelude.{◌≡◌, ◌++◌, IfOk, OnOk};
 ghost use Rattle.sml_syntax.specs.Scope.{UnboundInType, UnboundInRule, first_parts, type_names, datatype_names, constructor_names};
-ghost use Rattle.hm_scope.specs.Least.{Sees, Some_of, SeesDec, SeesDecs, SeesVal, SeesFunctions, SeesLocal, SeesAbbreviations, SeesDatatypes, SeesExceptions, InArguments, InArgument};
+ghost use Rattle.hm_scope.specs.Least.{Sees, Some_of, SeesDec, SeesDecs, SeesFunctions, SeesLocal, SeesAbbreviations, SeesDatatypes, SeesExceptions, InArguments, InArgument};
 
 use crate::search::Search;
-use sml_syntax::{Dec, DecForm, Exp, Listed, NoMemory, Pat, Rule, Text, Ty};
+use sml_syntax::{Dec, DecForm, Listed, NoMemory, Rule, Text, Ty};
 use std::alloc::Global;
 
 type TypeBinding = (Listed<Text>, Text, Ty);
@@ -22,68 +22,43 @@ impl Search {
         Ok(())
     }
 
+    // The bindings of `val` stand outside the scope of their names, functions within it; the names of the first
+    // declarations of `local` are in scope in the others alone.
     #[cycle(programs)]
     fn dec(&mut self, d: &Dec) -> Result<(), NoMemory>
         ensures { OnOk result (SeesDec d.now self.old self.new) }
     {
         match &d.form {
-            DecForm::Val(binds) => self.val(binds.as_slice()),
-            DecForm::ValRec(binds) => self.functions(binds.as_slice()),
+            DecForm::Val(binds) => {
+                let mut names = Vec::new(self.alloc);
+                for bind in binds.as_slice() {
+                    self.pat(&bind.0);
+                    self.exp(&bind.1)?;
+                    self.bound(&bind.0, &mut names)?;
+                }
+                self.add_values(names.as_slice(), false)?;
+                Ok(())
+            }
+            DecForm::ValRec(binds) => {
+                let names = function_names(self.alloc, binds.as_slice())?;
+                self.add_values(names.as_slice(), false)?;
+                for bind in binds.as_slice() {
+                    self.rules(bind.1.as_slice())?;
+                }
+                Ok(())
+            }
             DecForm::Abbrev(binds) => self.abbreviation_group(binds.as_slice()),
             DecForm::DataDef(binds) => self.datatype_group(binds.as_slice()),
             DecForm::ExnDef(binds) => self.exceptions(binds.as_slice()),
-            DecForm::Local(hidden, shown) => self.local(hidden.as_slice(), shown.as_slice()),
+            DecForm::Local(hidden, shown) => {
+                let outer = self.depth();
+                self.decs(hidden.as_slice())?;
+                let inner = self.depth();
+                self.decs(shown.as_slice())?;
+                self.hide(outer, inner)?;
+                Ok(())
+            }
         }
-    }
-
-    // `local`: the names of the first declarations are in scope in the others alone.
-    #[cycle(programs)]
-    fn local(&mut self, hidden: &[Dec], shown: &[Dec]) -> Result<(), NoMemory>
-        ensures { OnOk result (SeesLocal hidden.now shown.now self.old self.new) }
-    {
-        let outer = self.depth();
-        self.decs(hidden)?;
-        let inner = self.depth();
-        self.decs(shown)?;
-        self.hide(outer, inner)?;
-        Ok(())
-    }
-
-    // `val`: patterns and expressions stand outside the scope of the names.
-    #[cycle(programs)]
-    fn val(&mut self, binds: &[(Pat, Exp)]) -> Result<(), NoMemory>
-        ensures { OnOk result (SeesVal binds.now self.old self.new) }
-    {
-        let mut names = Vec::new(self.alloc);
-        for bind in binds {
-            self.pat(&bind.0);
-            self.exp(&bind.1)?;
-            self.bound(&bind.0, &mut names)?;
-        }
-        self.add_values(names.as_slice(), false)?;
-        Ok(())
-    }
-
-    // Functions, all within the scope of their names.
-    #[cycle(programs)]
-    fn functions(&mut self, binds: &[(Text, Listed<Rule>)]) -> Result<(), NoMemory>
-        ensures { OnOk result (SeesFunctions binds.now self.old self.new) }
-    {
-        let names = function_names(self.alloc, binds)?;
-        self.add_values(names.as_slice(), false)?;
-        self.matches(binds)?;
-        Ok(())
-    }
-
-    // The matches of functions.
-    #[cycle(programs)]
-    fn matches(&mut self, binds: &[(Text, Listed<Rule>)]) -> Result<(), NoMemory>
-        ensures { OnOk result (Sees (Some_of (λ bind. Some_of (UnboundInRule self.old.names) bind.1) binds.now) self.old self.new) }
-    {
-        for bind in binds {
-            self.rules(bind.1.as_slice())?;
-        }
-        Ok(())
     }
 
     // `type`: the types stand outside the scope of the names.

@@ -26,7 +26,13 @@ impl Search {
                 self.exp(f.get())?;
                 self.exp(argument.get())
             }
-            ExpForm::Let(ds, es) => self.let_in(ds.as_slice(), es.as_slice()),
+            ExpForm::Let(ds, es) => {
+                let outer = self.depth();
+                self.decs(ds.as_slice())?;
+                self.exps(es.as_slice())?;
+                self.cut(outer);
+                Ok(())
+            }
             ExpForm::Fn(rules) => self.rules(rules.as_slice()),
             ExpForm::Case(part, rules) => {
                 self.exp(part.get())?;
@@ -57,18 +63,6 @@ impl Search {
                 Ok(())
             }
         }
-    }
-
-    // `let`: the names of the declarations are in scope in the expressions.
-    #[cycle(programs)]
-    fn let_in(&mut self, ds: &[Dec], es: &[Exp]) -> Result<(), NoMemory>
-        ensures { OnOk result (Sees (InLet self.old.names ds.now es.now) self.old self.new) }
-    {
-        let outer = self.depth();
-        self.decs(ds)?;
-        self.exps(es)?;
-        self.cut(outer);
-        Ok(())
     }
 
     #[cycle(programs)]

@@ -1,16 +1,15 @@
 use Rattle.std.proofs.Common.{arith, ◌≡◌, ◌++◌, ◌+◌, ℕ, length, take, Bool, true, false, List, [], subst, sym, ap, ◌∙◌}
-use Rattle.std.proofs.lemmas.List.{length-append, take_more}
+use Rattle.std.proofs.lemmas.List.{length-append, take_more, take_all}
 use Rattle.std.proofs.lemmas.Result.{on_ok_weaker}
 use Rattle.sml_syntax.specs.declared.tree.Rule.{Rule, out-Rule}
-use Rattle.sml_syntax.specs.Scope.{Names, status, Binds, BindsAll, UnboundInExp, UnboundInRule, UnboundInType, inside, variables_only, as_variables, antiquoted, first_parts}
+use Rattle.sml_syntax.specs.Scope.{Names, status, Binds, BindsAll, binds_end, UnboundInExp, UnboundInRule, UnboundInType, inside, variables_only, as_variables, antiquoted, first_parts}
 use Rattle.hm_scope.specs.Least.{Sees, Some_of, SeesDec, SeesDecs, SeesVal, SeesFunctions, SeesAbbreviations, SeesDatatypes, SeesExceptions, SeesLocal, InBinding, InLet}
-use Rattle.hm_scope.proofs.Leasts.{seen-as, sees-next, sees-whole, none_of, not_none}
+use Rattle.hm_scope.proofs.Leasts.{seen-as, sees-next, sees-whole, sees-nil, none_of, not_none}
 use Rattle.hm_scope.proofs.Forms.{exp-name, exp-tuple, exp-list, exp-seq, exp-app, exp-let, exp-fn, exp-case, exp-handle, exp-raise, exp-if, exp-both, exp-either, exp-quote, exp-typed, dec-val, dec-valrec, dec-abbrev, dec-datadef, dec-exndef, dec-local, piece-plain, piece-anti}
 use Rattle.hm_scope.proofs.Expressions.{sees-tuple-exp, sees-list-exp, sees-seq, sees-app, sees-both, sees-either, sees-raise, sees-if, sees-quote, sees-fn, sees-case, sees-handle, sees-name, sees-name-unbound, sees-typed, sees-pieces-next, sees-plain, sees-anti, sees-let}
 use Rattle.hm_scope.proofs.Scopes.{added, sees-rule, sees-let-in, sees-local, sees-decs-nil, sees-decs-next, sees-decs-whole}
-use Rattle.hm_scope.proofs.Declarations.{sees-dec-val, sees-dec-functions, sees-dec-abbreviations, sees-dec-datatypes, sees-dec-exceptions, sees-dec-local, sees-functions, sees-binding, binds-next, sees-val}
+use Rattle.hm_scope.proofs.Declarations.{sees-dec-val, sees-dec-functions, sees-dec-abbreviations, sees-dec-datatypes, sees-dec-exceptions, sees-dec-local, functions-start, functions-next, functions-whole, sees-binding, binds-next, sees-val}
 use Rattle.hm_scope.proofs.search.Search.+programs.Goals as goal
-use Rattle.hm_scope.proofs.search.Search.+programs.Goals.{exp-then-is_none, exp-else-is_none}
 
 pub exp-returns-in-Tuple : goal.exp-returns-in-Tuple
 exp-returns-in-Tuple t c = on_ok_weaker _ (λ s. sees-tuple-exp c.args.e.now c.in-Tuple.es c.args.self.now c.exps.new.self (exp-tuple c.in-Tuple.es c.in-Tuple.is) (seen-as _ _ _ _ _ c.as_slice.ensures s)) c.exps.ensures
@@ -29,10 +28,6 @@ exp-returns-in-Quote t c = on_ok_weaker _ (λ s. sees-quote c.args.e.now c.in-Qu
 
 pub exp-returns-in-Raise : goal.exp-returns-in-Raise
 exp-returns-in-Raise t c = on_ok_weaker _ (λ s. sees-raise c.args.e.now c.in-Raise.part c.args.self.now c.exp-in-Raise.new.self (exp-raise c.in-Raise.part c.in-Raise.is) (subst (λ x. Sees (UnboundInExp c.args.self.now.names x) c.args.self.now c.exp-in-Raise.new.self) c.get-in-Raise.ensures s)) c.exp-in-Raise.ensures
-
-pub exp-returns-in-Let : goal.exp-returns-in-Let
-exp-returns-in-Let t c = on_ok_weaker _ (λ s. sees-let c.args.e.now c.in-Let.ds c.in-Let.es c.args.self.now c.let_in.new.self (exp-let c.in-Let.ds c.in-Let.es c.in-Let.is)
-    (subst (λ x. Sees (InLet c.args.self.now.names x c.in-Let.es) c.args.self.now c.let_in.new.self) c.as_slice-in-Let.ensures (subst (λ x. Sees (InLet c.args.self.now.names c.as_slice-in-Let.result.now x) c.args.self.now c.let_in.new.self) c.as_slice-in-Let-2.ensures s))) c.let_in.ensures
 
 pub exp-returns-in_ok-exp-in-App : goal.exp-returns-in_ok-exp-in-App
 exp-returns-in_ok-exp-in-App t c = on_ok_weaker _ (λ s. sees-app c.args.e.now c.in-App.f c.in-App.argument c.args.self.now c.exp.new.self c.exp-in-App.new.self (exp-app c.in-App.f c.in-App.argument c.in-App.is)
@@ -69,15 +64,6 @@ pub exp-returns-in_ok-exp-in-Typed : goal.exp-returns-in_ok-exp-in-Typed
 exp-returns-in_ok-exp-in-Typed t c = sees-typed c.args.e.now c.in-Typed.part c.in-Typed.t c.args.self.now c.exp-in-Typed.new.self c.ty.new.self (exp-typed c.in-Typed.part c.in-Typed.t c.in-Typed.is)
     (subst (λ x. Sees (UnboundInExp c.args.self.now.names x) c.args.self.now c.exp-in-Typed.new.self) c.get-in-Typed.ensures c.in_ok-exp-in-Typed.ensures) c.ty.ensures
 
-pub exp-returns-after-is_none : goal.exp-returns-after-is_none
-exp-returns-after-is_none t c = 
-    let known : status c.in-Name.name c.args.self.now.names.values ≡ c.status.result = ap (λ n. status n c.args.self.now.names.values) (sym c.as_bytes.ensures) ∙ sym c.status.ensures in
-    elim c.if-is_none.branch [
-      | exp-then-is_none w ↦ sees-name-unbound c.args.e.now c.in-Name.name c.args.self.now c.if-is_none.self (exp-name c.in-Name.name c.in-Name.is)
-          (known ∙ none_of _ w.if-is_none.ensures) (subst (λ b. Sees (λ place. place ≡ c.args.e.now.span.from) c.args.self.now b) (sym w.self-is) w.find.ensures)
-      | exp-else-is_none w ↦ subst (λ b. Sees (UnboundInExp c.args.self.now.names c.args.e.now) c.args.self.now b) (sym w.self-is) (sees-name c.args.e.now c.in-Name.name c.args.self.now (exp-name c.in-Name.name c.in-Name.is) (λ h. not_none _ w.if-is_none.ensures (sym known ∙ h)))
-    ]
-
 pub exps-loop-e-preserved : goal.exps-loop-e-preserved
 exps-loop-e-preserved t c = sees-next (λ n. UnboundInExp n) c.args.es.now c.loop-e.e-index _ c.e-item.result c.args.self.now c.loop-e.self c.exp.new.self c.e-item.is c.loop-e-test.true c.loop-e.invariant c.in_ok-exp.ensures
 
@@ -99,17 +85,6 @@ piece-returns-in-Plain t c = sees-plain c.args.piece.now _ c.args.self.now (piec
 pub piece-returns-in-Anti : goal.piece-returns-in-Anti
 piece-returns-in-Anti t c = on_ok_weaker _ (λ s. sees-anti c.args.piece.now c.in-Anti.part c.args.self.now c.exp.new.self (piece-anti c.in-Anti.part c.in-Anti.is) s) c.exp.ensures
 
-pub matches-loop-bind-preserved : goal.matches-loop-bind-preserved
-matches-loop-bind-preserved t c = sees-next (λ n (bind : List ℕ × List Rule). Some_of (UnboundInRule n) bind.1) c.args.binds.now c.loop-bind.bind-index _ c.bind-item.result c.args.self.now c.loop-bind.self c.rules.new.self c.bind-item.is c.loop-bind-test.true c.loop-bind.invariant
-    (seen-as _ _ _ _ _ c.as_slice.ensures c.in_ok-rules.ensures)
-
-pub matches-returns : goal.matches-returns
-matches-returns t c = sees-whole (λ (bind : List ℕ × List Rule). Some_of (UnboundInRule c.args.self.now.names) bind.1) c.args.binds.now c.loop-bind.bind-index c.args.self.now c.loop-bind.self (omega (arith, c.loop-bind-test.false)) c.loop-bind.invariant
-
-pub functions-returns : goal.functions-returns
-functions-returns t c = sees-functions c.args.binds.now c.args.self.now c.add_values.new.self c.matches.new.self
-    (c.in_ok-add_values.ensures.values ∙ ap (λ z. as_variables z ++ c.args.self.now.names.values) (c.as_slice.ensures ∙ c.in_ok-names.ensures)) c.in_ok-add_values.ensures.types c.in_ok-add_values.ensures.first c.in_ok-matches.ensures
-
 pub decs-loop-d-init : goal.decs-loop-d-init
 decs-loop-d-init t c = sees-decs-nil c.args.self.now
 
@@ -118,12 +93,6 @@ decs-loop-d-preserved t c = sees-decs-next c.args.ds.now c.loop-d.d-index _ c.d-
 
 pub decs-returns : goal.decs-returns
 decs-returns t c = sees-decs-whole c.args.ds.now c.loop-d.d-index c.args.self.now c.loop-d.self (omega (arith, c.loop-d-test.false)) c.loop-d.invariant
-
-pub dec-returns-in-Val : goal.dec-returns-in-Val
-dec-returns-in-Val t c = on_ok_weaker _ (λ s. sees-dec-val c.args.d.now c.in-Val.binds c.args.self.now c.val.new.self (dec-val c.in-Val.binds c.in-Val.is) (subst (λ l. SeesVal l c.args.self.now c.val.new.self) c.as_slice.ensures s)) c.val.ensures
-
-pub dec-returns-in-ValRec : goal.dec-returns-in-ValRec
-dec-returns-in-ValRec t c = on_ok_weaker _ (λ s. sees-dec-functions c.args.d.now c.in-ValRec.binds c.args.self.now c.functions.new.self (dec-valrec c.in-ValRec.binds c.in-ValRec.is) (subst (λ l. SeesFunctions l c.args.self.now c.functions.new.self) c.as_slice-in-ValRec.ensures s)) c.functions.ensures
 
 pub dec-returns-in-Abbrev : goal.dec-returns-in-Abbrev
 dec-returns-in-Abbrev t c = on_ok_weaker _ (λ s. sees-dec-abbreviations c.args.d.now c.in-Abbrev.binds c.args.self.now c.abbreviation_group.new.self (dec-abbrev c.in-Abbrev.binds c.in-Abbrev.is) (subst (λ l. SeesAbbreviations l c.args.self.now c.abbreviation_group.new.self) c.as_slice-in-Abbrev.ensures s)) c.abbreviation_group.ensures
@@ -134,45 +103,52 @@ dec-returns-in-DataDef t c = on_ok_weaker _ (λ s. sees-dec-datatypes c.args.d.n
 pub dec-returns-in-ExnDef : goal.dec-returns-in-ExnDef
 dec-returns-in-ExnDef t c = on_ok_weaker _ (λ s. sees-dec-exceptions c.args.d.now c.in-ExnDef.binds c.args.self.now c.exceptions.new.self (dec-exndef c.in-ExnDef.binds c.in-ExnDef.is) (subst (λ l. SeesExceptions l c.args.self.now c.exceptions.new.self) c.as_slice-in-ExnDef.ensures s)) c.exceptions.ensures
 
-pub dec-returns-in-Local : goal.dec-returns-in-Local
-dec-returns-in-Local t c = on_ok_weaker _ (λ s. sees-dec-local c.args.d.now c.in-Local.hidden c.in-Local.shown c.args.self.now c.local.new.self (dec-local c.in-Local.hidden c.in-Local.shown c.in-Local.is)
-    (subst (λ x. SeesLocal x c.in-Local.shown c.args.self.now c.local.new.self) c.as_slice-in-Local.ensures (subst (λ x. SeesLocal c.as_slice-in-Local.result.now x c.args.self.now c.local.new.self) c.as_slice-in-Local-2.ensures s))) c.local.ensures
-
-pub local-returns : goal.local-returns
-local-returns t c = 
-    let s = c.in_ok-decs.ensures in
-    let u = c.in_ok-decs-2.ensures in
-    let left = c.in_ok-hide.ensures u.more s.more c.args.self.now.names (u.names ∙ ap (inside u.more) s.names) c.depth-outer.ensures.values c.depth-outer.ensures.types
-          (c.depth-inner.ensures.values ∙ ap (λ n. length n.values) s.names ∙ length-append s.more.values c.args.self.now.names.values)
-          (c.depth-inner.ensures.types ∙ ap (λ n. length n.types) s.names ∙ length-append s.more.types c.args.self.now.names.types) in
-    sees-local c.args.hidden.now c.args.shown.now c.args.self.now c.decs.new.self c.decs-2.new.self c.hide.new.self s u (ap (λ z. z.names) left) (ap (λ z. z.first) left)
-
-pub let_in-returns : goal.let_in-returns
-let_in-returns t c = 
-    let s = c.in_ok-decs.ensures in
-    let u = c.in_ok-exps.ensures in
-    let left = c.cut.ensures s.more c.args.self.now.names (u.same ∙ s.names) c.depth-outer.ensures.values c.depth-outer.ensures.types in
-    sees-let-in c.args.ds.now c.args.es.now c.args.self.now c.decs.new.self c.exps.new.self c.cut.new.self s u (ap (λ z. z.names) left) (ap (λ z. z.first) left)
-
 pub rule-returns : goal.rule-returns
 rule-returns t c = 
     let b = c.in_ok-bound.ensures in
     let scope = added c.pat.new.self c.add_values.new.self (variables_only b.0)
-          (c.in_ok-add_values.ensures.values ∙ ap (λ z. as_variables z ++ c.pat.new.self.names.values) (c.as_slice.ensures ∙ b.2 ∙ ap (λ z. z ++ b.0) c.new-names.ensures.items)) c.in_ok-add_values.ensures.types in
+          (c.in_ok-add_values.ensures.values ∙ ap (λ z. as_variables z ++ c.pat.new.self.names.values) (c.as_slice.ensures.value ∙ b.2 ∙ ap (λ z. z ++ b.0) c.new-names.ensures.items)) c.in_ok-add_values.ensures.types in
     let u = c.in_ok-exp.ensures in
     let left = c.cut.ensures (variables_only b.0) c.pat.new.self.names (u.same ∙ scope) c.depth-outer.ensures.values c.depth-outer.ensures.types in
     sees-rule c.args.rule.now b.0 c.args.self.now c.pat.new.self c.add_values.new.self c.exp.new.self c.cut.new.self c.pat.ensures b.1 scope c.in_ok-add_values.ensures.first u (ap (λ z. z.names) left) (ap (λ z. z.first) left)
 
-pub val-loop-bind-preserved : goal.val-loop-bind-preserved
-val-loop-bind-preserved t c = 
-    let b = c.in_ok-bound.ensures in
-    let same = c.in_ok-exp.ensures.same ∙ c.pat.ensures.same ∙ c.loop-bind.invariant.0.same in
-    (sees-next (λ n. InBinding n) c.args.binds.now c.loop-bind.bind-index _ c.bind-item.result c.args.self.now c.loop-bind.self c.exp.new.self c.bind-item.is c.loop-bind-test.true c.loop-bind.invariant.0
-       (sees-binding c.bind-item.result c.loop-bind.self c.pat.new.self c.exp.new.self c.pat.ensures c.in_ok-exp.ensures),
-     subst (BindsAll c.args.self.now.names (first_parts (take (c.loop-bind.bind-index + 1) c.args.binds.now))) (sym b.2)
-       (binds-next c.args.self.now.names c.args.binds.now c.loop-bind.bind-index _ c.bind-item.result c.loop-bind.names.items b.0 c.bind-item.is c.loop-bind-test.true c.loop-bind.invariant.1
+
+pub exp-returns-then-is_none : goal.exp-returns-then-is_none
+exp-returns-then-is_none t c = sees-name-unbound c.args.e.now c.in-Name.name c.args.self.now c.find.new.self (exp-name c.in-Name.name c.in-Name.is)
+    (ap (λ n. status n c.args.self.now.names.values) (sym c.as_bytes.ensures) ∙ sym c.status.ensures ∙ none_of _ c.if-is_none.ensures) c.find.ensures
+
+pub exp-returns-else-is_none : goal.exp-returns-else-is_none
+exp-returns-else-is_none t c = sees-name c.args.e.now c.in-Name.name c.args.self.now (exp-name c.in-Name.name c.in-Name.is)
+    (λ h. not_none _ c.if-is_none.ensures (c.status.ensures ∙ ap (λ n. status n c.args.self.now.names.values) c.as_bytes.ensures ∙ h))
+
+pub pieces-returns : goal.pieces-returns
+pieces-returns t c = subst (λ l. Sees (Some_of (UnboundInExp c.args.self.now.names) (antiquoted l)) c.args.self.now c.loop-piece.self) (take_all c.loop-piece.piece-index c.args.pieces.now (omega (arith, c.loop-piece-test.false))) c.loop-piece.invariant
+
+pub dec-loop-bind-init : goal.dec-loop-bind-init
+dec-loop-bind-init t c = (sees-nil _ c.args.self.now, subst (λ l. BindsAll c.args.self.now.names [] l) (sym c.new-names.ensures.items) binds_end)
+
+pub dec-loop-bind-preserved : goal.dec-loop-bind-preserved
+dec-loop-bind-preserved t c = 
+    let b = c.in_ok-bound-in-Val.ensures in
+    let same = c.in_ok-exp-in-Val.ensures.same ∙ c.pat.ensures.same ∙ c.loop-bind.invariant.0.same in
+    (sees-next (λ n. InBinding n) c.as_slice-bind-items.result.now c.loop-bind.bind-index _ c.bind-item.result c.args.self.now c.loop-bind.self c.exp.new.self c.bind-item.is c.loop-bind-test.true c.loop-bind.invariant.0
+       (sees-binding c.bind-item.result c.loop-bind.self c.pat.new.self c.exp.new.self c.pat.ensures c.in_ok-exp-in-Val.ensures),
+     subst (BindsAll c.args.self.now.names (first_parts (take (c.loop-bind.bind-index + 1) c.as_slice-bind-items.result.now))) (sym b.2)
+       (binds-next c.args.self.now.names c.as_slice-bind-items.result.now c.loop-bind.bind-index _ c.bind-item.result c.loop-bind.names.items b.0 c.bind-item.is c.loop-bind-test.true c.loop-bind.invariant.1
          (subst (λ n. Binds n c.bind-item.result.0 b.0) same b.1)))
 
-pub val-returns : goal.val-returns
-val-returns t c = sees-val c.args.binds.now c.loop-bind.bind-index c.loop-bind.names.items c.args.self.now c.loop-bind.self c.add_values.new.self (omega (arith, c.loop-bind-test.false)) c.loop-bind.invariant.0 c.loop-bind.invariant.1
-    (c.in_ok-add_values.ensures.values ∙ ap (λ z. as_variables z ++ c.loop-bind.self.names.values) c.as_slice.ensures) c.in_ok-add_values.ensures.types c.in_ok-add_values.ensures.first
+pub dec-returns-in_ok-add_values-in-Val : goal.dec-returns-in_ok-add_values-in-Val
+dec-returns-in_ok-add_values-in-Val t c = sees-dec-val c.args.d.now c.in-Val.binds c.args.self.now c.add_values.new.self (dec-val c.in-Val.binds c.in-Val.is)
+    (subst (λ l. SeesVal l c.args.self.now c.add_values.new.self) c.as_slice-bind-items.ensures
+      (sees-val c.as_slice-bind-items.result.now c.loop-bind.bind-index c.loop-bind.names.items c.args.self.now c.loop-bind.self c.add_values.new.self (omega (arith, c.loop-bind-test.false)) c.loop-bind.invariant.0 c.loop-bind.invariant.1
+        (c.in_ok-add_values-in-Val.ensures.values ∙ ap (λ z. as_variables z ++ c.loop-bind.self.names.values) c.as_slice.ensures.value) c.in_ok-add_values-in-Val.ensures.types c.in_ok-add_values-in-Val.ensures.first))
+
+pub dec-loop-bind-2-init : goal.dec-loop-bind-2-init
+dec-loop-bind-2-init t c = functions-start c.as_slice-bind-items-in-ValRec.result.now c.args.self.now c.add_values-in-ValRec.new.self
+    (c.in_ok-add_values-in-ValRec.ensures.values ∙ ap (λ z. as_variables z ++ c.args.self.now.names.values)
+      (c.as_slice-in-ValRec-2.ensures.value ∙ c.in_ok-names-in-ValRec.ensures ∙ ap first_parts (c.as_slice-in-ValRec.ensures ∙ sym c.as_slice-bind-items-in-ValRec.ensures)))
+    c.in_ok-add_values-in-ValRec.ensures.types c.in_ok-add_values-in-ValRec.ensures.first
+
+pub dec-loop-bind-2-preserved : goal.dec-loop-bind-2-preserved
+dec-loop-bind-2-preserved t c = functions-next c.as_slice-bind-items-in-ValRec.result.now c.loop-bind-2.bind-index _ c.bind-item-in-loop-bind-2.result c.args.self.now c.loop-bind-2.self c.rules.new.self
+    c.bind-item-in-loop-bind-2.is c.loop-bind-2-test.true c.loop-bind-2.invariant (seen-as _ _ _ _ _ c.as_slice-in-loop-bind-2.ensures c.in_ok-rules-in-ValRec.ensures)

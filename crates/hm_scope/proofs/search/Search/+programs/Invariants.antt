@@ -1,7 +1,7 @@
 use Rattle.std.proofs.Common.{◌≡◌, take, ℕ, List}
-use Rattle.sml_syntax.specs.declared.tree.Rule.{Rule}
 use Rattle.sml_syntax.specs.Scope.{UnboundInExp, UnboundInRule, BindsAll, antiquoted, first_parts}
 use Rattle.hm_scope.specs.Least.{Sees, Some_of, SeesDecs, InBinding}
+use Rattle.hm_scope.proofs.Declarations.{FunctionsSeen}
 use Rattle.hm_scope.proofs.search.Search.+programs.Given as goal
 
 abbrev pub invariant-exps-loop-e : goal.invariant-exps-loop-e
@@ -16,9 +16,9 @@ invariant-pieces-loop-piece l = Sees (Some_of (UnboundInExp l.fn.self.names) (an
 abbrev pub invariant-decs-loop-d : goal.invariant-decs-loop-d
 invariant-decs-loop-d l = SeesDecs (take l.d-index l.ds) l.fn.self l.self
 
-abbrev pub invariant-val-loop-bind : goal.invariant-val-loop-bind
-invariant-val-loop-bind l = Sees (Some_of (InBinding l.fn.self.names) (take l.bind-index l.binds)) l.fn.self l.self
-    × BindsAll l.fn.self.names (first_parts (take l.bind-index l.binds)) l.names.items
+abbrev pub invariant-dec-loop-bind : goal.invariant-dec-loop-bind
+invariant-dec-loop-bind l = Sees (Some_of (InBinding l.fn.self.names) (take l.bind-index l.bind-items)) l.fn.self l.self
+    × BindsAll l.fn.self.names (first_parts (take l.bind-index l.bind-items)) l.names.items
 
-abbrev pub invariant-matches-loop-bind : goal.invariant-matches-loop-bind
-invariant-matches-loop-bind l = Sees (Some_of (λ (bind : List ℕ × List Rule). Some_of (UnboundInRule l.fn.self.names) bind.1) (take l.bind-index l.binds)) l.fn.self l.self
+abbrev pub invariant-dec-loop-bind-2 : goal.invariant-dec-loop-bind-2
+invariant-dec-loop-bind-2 l = FunctionsSeen l.bind-items (take l.bind-index l.bind-items) l.fn.self l.self

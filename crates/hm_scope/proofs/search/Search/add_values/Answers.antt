@@ -1,4 +1,4 @@
-use Rattle.std.proofs.Common.{arith, ◌≡◌, ◌++◌, ◌∷◌, ◌-◌, reverse, ap, ◌∙◌}
+use Rattle.std.proofs.Common.{arith, ◌≡◌, ◌++◌, ◌∷◌, ◌-◌, [], reverse, ap, ◌∙◌}
 use Rattle.hm_scope.proofs.Scopes.{put-step}
 use Rattle.hm_scope.proofs.search.Search.add_values.Goals as goal
 
