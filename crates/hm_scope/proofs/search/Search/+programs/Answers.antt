@@ -152,3 +152,26 @@ dec-loop-bind-2-init t c = functions-start c.as_slice-bind-items-in-ValRec.resul
 pub dec-loop-bind-2-preserved : goal.dec-loop-bind-2-preserved
 dec-loop-bind-2-preserved t c = functions-next c.as_slice-bind-items-in-ValRec.result.now c.loop-bind-2.bind-index _ c.bind-item-in-loop-bind-2.result c.args.self.now c.loop-bind-2.self c.rules.new.self
     c.bind-item-in-loop-bind-2.is c.loop-bind-2-test.true c.loop-bind-2.invariant (seen-as _ _ _ _ _ c.as_slice-in-loop-bind-2.ensures c.in_ok-rules-in-ValRec.ensures)
+
+pub dec-returns-after-loop-bind-2 : goal.dec-returns-after-loop-bind-2
+dec-returns-after-loop-bind-2 t c = sees-dec-functions c.args.d.now c.in-ValRec.binds c.args.self.now c.loop-bind-2.self (dec-valrec c.in-ValRec.binds c.in-ValRec.is)
+    (subst (λ l. SeesFunctions l c.args.self.now c.loop-bind-2.self) c.as_slice-bind-items-in-ValRec.ensures
+      (functions-whole c.as_slice-bind-items-in-ValRec.result.now c.loop-bind-2.bind-index c.args.self.now c.loop-bind-2.self (omega (arith, c.loop-bind-2-test.false)) c.loop-bind-2.invariant))
+
+pub dec-returns-in_ok-hide-in-Local : goal.dec-returns-in_ok-hide-in-Local
+dec-returns-in_ok-hide-in-Local t c =
+    let s = subst (λ l. SeesDecs l c.args.self.now c.decs.new.self) c.as_slice-in-Local.ensures c.in_ok-decs-in-Local.ensures in
+    let u = subst (λ l. SeesDecs l c.decs.new.self c.decs-in-Local.new.self) c.as_slice-in-Local-2.ensures c.in_ok-decs-in-Local-2.ensures in
+    let left = c.in_ok-hide-in-Local.ensures u.more s.more c.args.self.now.names (u.names ∙ ap (inside u.more) s.names) c.depth-outer.ensures.values c.depth-outer.ensures.types
+          (c.depth-inner.ensures.values ∙ ap (λ n. length n.values) s.names ∙ length-append s.more.values c.args.self.now.names.values)
+          (c.depth-inner.ensures.types ∙ ap (λ n. length n.types) s.names ∙ length-append s.more.types c.args.self.now.names.types) in
+    sees-dec-local c.args.d.now c.in-Local.hidden c.in-Local.shown c.args.self.now c.hide.new.self (dec-local c.in-Local.hidden c.in-Local.shown c.in-Local.is)
+      (sees-local c.in-Local.hidden c.in-Local.shown c.args.self.now c.decs.new.self c.decs-in-Local.new.self c.hide.new.self s u (ap (λ z. z.names) left) (ap (λ z. z.first) left))
+
+pub exp-returns-in_ok-exps-in-Let : goal.exp-returns-in_ok-exps-in-Let
+exp-returns-in_ok-exps-in-Let t c =
+    let s = subst (λ l. SeesDecs l c.args.self.now c.decs.new.self) c.as_slice-in-Let.ensures c.in_ok-decs-in-Let.ensures in
+    let u = seen-as _ _ _ _ _ c.as_slice-in-Let-2.ensures c.in_ok-exps-in-Let.ensures in
+    let left = c.cut.ensures s.more c.args.self.now.names (u.same ∙ s.names) c.depth-outer.ensures.values c.depth-outer.ensures.types in
+    sees-let c.args.e.now c.in-Let.ds c.in-Let.es c.args.self.now c.cut.new.self (exp-let c.in-Let.ds c.in-Let.es c.in-Let.is)
+      (sees-let-in c.in-Let.ds c.in-Let.es c.args.self.now c.decs.new.self c.exps-in-Let.new.self c.cut.new.self s u (ap (λ z. z.names) left) (ap (λ z. z.first) left))
