@@ -9,10 +9,26 @@ use Rattle.sml_syntax.specs.declared.tree.Dec.{Dec}
 use Rattle.sml_syntax.specs.declared.tree.DecForm.TheOpen.{DecForm-F}
 use Rattle.sml_syntax.specs.Layers.{DecLayer, form_of_dec}
 use Rattle.sml_syntax.specs.Scope.{Names, IsOneOf, first_one, other_one, Binds, BindsAll, binds_end, binds_more, Adds, AddsAll, adds_val, adds_rec, adds_abbrev, adds_data, adds_exn, adds_local, inside, variables_only, as_variables, as_constructors, TypeBinding, DatatypeBinding, Constructors, first_parts, type_names, datatype_names, constructor_names, UnboundInType, UnboundInPat, UnboundInExp, UnboundInRule, UnboundInDec, UnboundInDecs, in_val_pattern, in_val, in_function, in_abbreviation, in_datatype, in_exception, in_hidden, in_shown}
-use Rattle.hm_scope.specs.Least.{IsLeast, With, Seen, Sees, Some_of, SeesDec, SeesDecs, SeesVal, SeesFunctions, SeesLocal, SeesAbbreviations, SeesDatatypes, SeesExceptions, InArgument, InArguments, InBinding, InLocal}
+use Rattle.hm_scope.specs.Least.{IsLeast, With, Seen, Sees, Some_of, SeesDec, SeesAbbreviations, SeesDatatypes, SeesExceptions, InArgument, InArguments}
 use Rattle.hm_scope.proofs.Leasts.{Lowers, lowers-then, lowers-to, sees-then, sees-to, sees-none, sees-nil, sees-next, of-none}
 use Rattle.hm_scope.proofs.Names.{binds-all-end}
-use Rattle.hm_scope.proofs.Scopes.{added}
+use Rattle.hm_scope.proofs.Scopes.{added, SeesLocal, InLocal}
+
+-- in a binding of `val`
+abbrev pub InBinding : Names → Pat × Exp → ℕ → Type 0
+InBinding scope bind place = UnboundInPat scope bind.0 place ⊎ UnboundInExp scope bind.1 place
+
+-- bindings of `val` were seen, and have added their names
+pub record SeesVal (binds : List (Pat × Exp)) (old new : Seen) : Type 0 where
+  pub names : List (List ℕ)
+  pub binds_names : BindsAll old.names (first_parts binds) names
+  pub scope : new.names ≡ inside (variables_only names) old.names
+  pub least : IsLeast (With old.first (Some_of (InBinding old.names) binds)) new.first
+
+-- functions have added their names, and were seen inside them
+pub record SeesFunctions (binds : List (List ℕ × List Rule)) (old new : Seen) : Type 0 where
+  pub scope : new.names ≡ inside (variables_only (first_parts binds)) old.names
+  pub least : IsLeast (With old.first (Some_of (λ (bind : List ℕ × List Rule). Some_of (UnboundInRule new.names) bind.1) binds)) new.first
 
 -- what has no binding, by the form
 abbrev pub DecAs : Names → DecLayer → ℕ → Type 0

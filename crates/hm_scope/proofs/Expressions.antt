@@ -14,7 +14,8 @@ use Rattle.sml_syntax.specs.declared.tree.DecForm.TheOpen.{Piece-F}
 use Rattle.sml_syntax.specs.declared.tree.DecForm.{DecForm}
 use Rattle.sml_syntax.specs.declared.tree.ExpForm.{ExpForm}
 use Rattle.sml_syntax.specs.Scope.{with_antiquoted}
-use Rattle.hm_scope.specs.Least.{Seen, Sees, Some_of, InPiece, InLet}
+use Rattle.hm_scope.specs.Least.{Seen, Sees, Some_of, InPiece}
+use Rattle.hm_scope.proofs.Scopes.{InLet}
 use Rattle.hm_scope.proofs.Leasts.{sees-none, sees-to, sees-then, sees-nil, sees-two, sees-end, sees-lists, of-none}
 
 abbrev pub ExpCases : Names → Exp → ℕ → Type 0

@@ -7,7 +7,7 @@ use Rattle.sml_syntax.specs.declared.tree.Exp.{Exp}
 use Rattle.sml_syntax.specs.declared.tree.Rule.{Rule, out-Rule}
 use Rattle.sml_syntax.specs.declared.tree.Dec.{Dec}
 use Rattle.sml_syntax.specs.Scope.{Names, IsOneOf, first_one, other_one, Binds, BindsAll, Adds, AddsAll, adds_nothing, adds_more, inside, variables_only, UnboundInPat, UnboundInExp, UnboundInRule, UnboundInDec, UnboundInDecs, in_pattern, in_body, in_first, in_rest}
-use Rattle.hm_scope.specs.Least.{IsLeast, With, Seen, Sees, Some_of, SeesDec, SeesDecs, SeesLocal, InLet, InLocal}
+use Rattle.hm_scope.specs.Least.{IsLeast, With, Seen, Sees, Some_of, SeesDec, SeesDecs}
 use Rattle.hm_scope.proofs.Leasts.{Lowers, lowers-then, lowers-to, lowers-none}
 use Rattle.hm_scope.proofs.Names.{binds-same, adds-same, adds-all-same, adds-all-end, no_names, inside-nothing, inside-inside}
 
@@ -47,7 +47,10 @@ sees-rule r names a b c d e s g cn cf t en ef = record {
     from : (p : ℕ) → UnboundInRule a.names r p → UnboundInPat a.names (out-Rule r).pat p ⊎ UnboundInExp scope (out-Rule r).body p
     from p x = go p (rule-cases x)
 
--- `let`
+-- in the declarations of `let`, or in one of its expressions
+abbrev pub InLet : Names → List Dec → List Exp → ℕ → Type 0
+InLet scope ds es place = UnboundInDecs scope ds place ⊎ ((more : Names) × AddsAll scope ds more × Some_of (UnboundInExp (inside more scope)) es place)
+
 pub sees-let-in : (ds : List Dec) (es : List Exp) (a b c d : Seen) → SeesDecs ds a b → Sees (Some_of (UnboundInExp b.names) es) b c → d.names ≡ a.names → d.first ≡ c.first → Sees (InLet a.names ds es) a d
 sees-let-in ds es a b c d s t dn df = record {
   same = dn;
@@ -63,7 +66,19 @@ sees-let-in ds es a b c d s t dn df = record {
     from p (inl x) = inl x
     from p (inr (more, g, x)) = inr (subst (λ z. Some_of (UnboundInExp (inside z a.names)) es p) (adds-all-same g s.more s.adds) x)
 
--- `local`
+-- in the hidden or in the shown declarations of `local`
+abbrev pub InLocal : Names → List Dec → List Dec → ℕ → Type 0
+InLocal scope hidden shown place = UnboundInDecs scope hidden place ⊎ ((more : Names) × AddsAll scope hidden more × UnboundInDecs (inside more scope) shown place)
+
+-- `local` was seen, and has added the names of its shown declarations
+pub record SeesLocal (hidden shown : List Dec) (old new : Seen) : Type 0 where
+  pub first : Names
+  pub second : Names
+  pub adds_hidden : AddsAll old.names hidden first
+  pub adds_shown : AddsAll (inside first old.names) shown second
+  pub names : new.names ≡ inside second old.names
+  pub least : IsLeast (With old.first (InLocal old.names hidden shown)) new.first
+
 pub sees-local : (hidden shown : List Dec) (a b c d : Seen) (s : SeesDecs hidden a b) (t : SeesDecs shown b c) → d.names ≡ inside t.more a.names → d.first ≡ c.first → SeesLocal hidden shown a d
 sees-local hidden shown a b c d s t dn df = record {
   first = s.more;

@@ -56,39 +56,6 @@ InArguments scope variables = Some_of (InArgument scope variables)
 abbrev pub InPiece : Names → Piece → ℕ → Type 0
 InPiece scope piece = Some_of (UnboundInExp scope) (antiquoted (piece ∷ []))
 
--- in the declarations of `let`, or in one of its expressions
-abbrev pub InLet : Names → List Dec → List Exp → ℕ → Type 0
-InLet scope ds es place = UnboundInDecs scope ds place ⊎ ((more : Names) × AddsAll scope ds more × Some_of (UnboundInExp (inside more scope)) es place)
-
--- in the hidden or in the shown declarations of `local`
-abbrev pub InLocal : Names → List Dec → List Dec → ℕ → Type 0
-InLocal scope hidden shown place = UnboundInDecs scope hidden place ⊎ ((more : Names) × AddsAll scope hidden more × UnboundInDecs (inside more scope) shown place)
-
--- in a binding of `val`
-abbrev pub InBinding : Names → Pat × Exp → ℕ → Type 0
-InBinding scope bind place = UnboundInPat scope bind.0 place ⊎ UnboundInExp scope bind.1 place
-
--- bindings of `val` were seen, and have added their names
-pub record SeesVal (binds : List (Pat × Exp)) (old new : Seen) : Type 0 where
-  pub names : List (List ℕ)
-  pub binds_names : BindsAll old.names (first_parts binds) names
-  pub scope : new.names ≡ inside (variables_only names) old.names
-  pub least : IsLeast (With old.first (Some_of (InBinding old.names) binds)) new.first
-
--- functions have added their names, and were seen inside them
-pub record SeesFunctions (binds : List (List ℕ × List Rule)) (old new : Seen) : Type 0 where
-  pub scope : new.names ≡ inside (variables_only (first_parts binds)) old.names
-  pub least : IsLeast (With old.first (Some_of (λ bind. Some_of (UnboundInRule new.names) bind.1) binds)) new.first
-
--- `local` was seen, and has added the names of its shown declarations
-pub record SeesLocal (hidden shown : List Dec) (old new : Seen) : Type 0 where
-  pub first : Names
-  pub second : Names
-  pub adds_hidden : AddsAll old.names hidden first
-  pub adds_shown : AddsAll (inside first old.names) shown second
-  pub names : new.names ≡ inside second old.names
-  pub least : IsLeast (With old.first (InLocal old.names hidden shown)) new.first
-
 -- abbreviations were seen, and have added their names
 pub record SeesAbbreviations (binds : List TypeBinding) (old new : Seen) : Type 0 where
   pub names : new.names ≡ inside (record { values = []; types = type_names binds }) old.names

@@ -1,7 +1,7 @@
 // Expressions and matches.
-ghost use Rattle.std.specs.Prelude.{◌≡◌, ◌++◌, take, map, IfOk, OnOk};
+ghost use Rattle.std.specs.Prelude.{OnOk};
 ghost use Rattle.sml_syntax.specs.Scope.{UnboundInExp, UnboundInRule, antiquoted};
-ghost use Rattle.hm_scope.specs.Least.{Sees, Some_of, InLet, InPiece};
+ghost use Rattle.hm_scope.specs.Least.{Sees, Some_of, InPiece};
 
 use crate::search::Search;
 use sml_syntax::{Dec, Exp, ExpForm, NoMemory, Piece, Rule};

@@ -1,5 +1,5 @@
 // A search for the least place without a binding, with the names in scope.
-ghost use Rattle.std.specs.Prelude.{◌≡◌, ◌++◌, ◌∷◌, ◌≤◌, [], length, reverse, take, map, ◌+◌, IfOk, OnOk, Some, None, MatchOption};
+ghost use Rattle.std.specs.Prelude.{◌≡◌, ◌++◌, ◌+◌, length, map, IfOk, OnOk, None, MatchOption};
 ghost use Rattle.sml_syntax.specs.Scope.{Names, status, has_name, basis_names, inside, AllBound, IsFirstUnbound};
 ghost use Rattle.hm_scope.specs.Least.{Sees};
 

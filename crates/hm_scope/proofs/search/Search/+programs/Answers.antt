@@ -3,12 +3,12 @@ use Rattle.std.proofs.lemmas.List.{length-append, take_more, take_all}
 use Rattle.std.proofs.lemmas.Result.{on_ok_weaker}
 use Rattle.sml_syntax.specs.declared.tree.Rule.{Rule, out-Rule}
 use Rattle.sml_syntax.specs.Scope.{Names, status, Binds, BindsAll, binds_end, UnboundInExp, UnboundInRule, UnboundInType, inside, variables_only, as_variables, antiquoted, first_parts}
-use Rattle.hm_scope.specs.Least.{Sees, Some_of, SeesDec, SeesDecs, SeesVal, SeesFunctions, SeesAbbreviations, SeesDatatypes, SeesExceptions, SeesLocal, InBinding, InLet}
+use Rattle.hm_scope.specs.Least.{Sees, Some_of, SeesDec, SeesDecs, SeesAbbreviations, SeesDatatypes, SeesExceptions}
 use Rattle.hm_scope.proofs.Leasts.{seen-as, sees-next, sees-whole, sees-nil, none_of, not_none}
 use Rattle.hm_scope.proofs.Forms.{exp-name, exp-tuple, exp-list, exp-seq, exp-app, exp-let, exp-fn, exp-case, exp-handle, exp-raise, exp-if, exp-both, exp-either, exp-quote, exp-typed, dec-val, dec-valrec, dec-abbrev, dec-datadef, dec-exndef, dec-local, piece-plain, piece-anti}
 use Rattle.hm_scope.proofs.Expressions.{sees-tuple-exp, sees-list-exp, sees-seq, sees-app, sees-both, sees-either, sees-raise, sees-if, sees-quote, sees-fn, sees-case, sees-handle, sees-name, sees-name-unbound, sees-typed, sees-pieces-next, sees-plain, sees-anti, sees-let}
 use Rattle.hm_scope.proofs.Scopes.{added, sees-rule, sees-let-in, sees-local, sees-decs-nil, sees-decs-next, sees-decs-whole}
-use Rattle.hm_scope.proofs.Declarations.{sees-dec-val, sees-dec-functions, sees-dec-abbreviations, sees-dec-datatypes, sees-dec-exceptions, sees-dec-local, functions-start, functions-next, functions-whole, sees-binding, binds-next, sees-val}
+use Rattle.hm_scope.proofs.Declarations.{InBinding, SeesVal, SeesFunctions, sees-dec-val, sees-dec-functions, sees-dec-abbreviations, sees-dec-datatypes, sees-dec-exceptions, sees-dec-local, functions-start, functions-next, functions-whole, sees-binding, binds-next, sees-val}
 use Rattle.hm_scope.proofs.search.Search.+programs.Goals as goal
 
 pub exp-returns-in-Tuple : goal.exp-returns-in-Tuple

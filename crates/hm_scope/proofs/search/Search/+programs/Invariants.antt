@@ -1,7 +1,7 @@
 use Rattle.std.proofs.Common.{◌≡◌, take, ℕ, List}
 use Rattle.sml_syntax.specs.Scope.{UnboundInExp, UnboundInRule, BindsAll, antiquoted, first_parts}
-use Rattle.hm_scope.specs.Least.{Sees, Some_of, SeesDecs, InBinding}
-use Rattle.hm_scope.proofs.Declarations.{FunctionsSeen}
+use Rattle.hm_scope.specs.Least.{Sees, Some_of, SeesDecs}
+use Rattle.hm_scope.proofs.Declarations.{InBinding, FunctionsSeen}
 use Rattle.hm_scope.proofs.search.Search.+programs.Given as goal
 
 abbrev pub invariant-exps-loop-e : goal.invariant-exps-loop-e
