@@ -1,5 +1,5 @@
 -- What has no binding in a declaration, by its form.
-use Rattle.std.proofs.Common.{arith, ◌≡◌, ◌⊎◌, inl, inr, refl, sym, ◌∙◌, ap, subst, ℕ, ◌+◌, ◌<◌, ◌≤◌, Bool, true, false, List, [], ◌∷◌, ◌++◌, map, take, length, get_or, Option, Some, None}
+use Rattle.std.proofs.Common.{◌≡◌, ◌⊎◌, inl, inr, refl, sym, ◌∙◌, ap, subst, ℕ, ◌+◌, ◌<◌, ◌≤◌, List, [], ◌∷◌, ◌++◌, take, length, get_or, Option, Some, None}
 use Rattle.std.proofs.lemmas.List.{append-nil, append_assoc, map-append, take_more, take_all}
 use Rattle.sml_syntax.specs.declared.tree.Ty.{Ty}
 use Rattle.sml_syntax.specs.declared.tree.Pat.{Pat}
@@ -8,9 +8,9 @@ use Rattle.sml_syntax.specs.declared.tree.Rule.{Rule}
 use Rattle.sml_syntax.specs.declared.tree.Dec.{Dec}
 use Rattle.sml_syntax.specs.declared.tree.DecForm.TheOpen.{DecForm-F}
 use Rattle.sml_syntax.specs.Layers.{DecLayer, form_of_dec}
-use Rattle.sml_syntax.specs.Scope.{Names, IsOneOf, first_one, other_one, Binds, BindsAll, binds_end, binds_more, Adds, AddsAll, adds_val, adds_rec, adds_abbrev, adds_data, adds_exn, adds_local, inside, variables_only, as_variables, as_constructors, TypeBinding, DatatypeBinding, Constructors, first_parts, type_names, datatype_names, constructor_names, UnboundInType, UnboundInPat, UnboundInExp, UnboundInRule, UnboundInDec, UnboundInDecs, in_val_pattern, in_val, in_function, in_abbreviation, in_datatype, in_exception, in_hidden, in_shown}
+use Rattle.sml_syntax.specs.Scope.{Names, Binds, BindsAll, adds_val, adds_rec, adds_abbrev, adds_data, adds_exn, adds_local, inside, variables_only, as_variables, as_constructors, TypeBinding, DatatypeBinding, Constructors, first_parts, type_names, datatype_names, constructor_names, UnboundInType, UnboundInPat, UnboundInExp, UnboundInRule, UnboundInDec, in_val_pattern, in_val, in_function, in_abbreviation, in_datatype, in_exception, in_hidden, in_shown}
 use Rattle.hm_scope.specs.Least.{IsLeast, With, Seen, Sees, Some_of, SeesDec, SeesAbbreviations, SeesDatatypes, SeesExceptions, InArgument, InArguments}
-use Rattle.hm_scope.proofs.Leasts.{Lowers, lowers-then, lowers-to, sees-then, sees-to, sees-none, sees-nil, sees-next, of-none}
+use Rattle.hm_scope.proofs.Leasts.{Lowers, lowers-to, sees-then, sees-to, sees-none, sees-nil, sees-next}
 use Rattle.hm_scope.proofs.Names.{binds-all-end}
 use Rattle.hm_scope.proofs.Scopes.{added, SeesLocal, InLocal}
 
@@ -123,7 +123,7 @@ sees-datatypes binds a b c d bt bv bf s dv dt df = record {
       (dv ∙ ap (λ z. as_constructors (constructor_names binds) ++ z.values) s.same ∙ ap (λ z. as_constructors (constructor_names binds) ++ z) bv) (dt ∙ ap (λ z. z.types) s.same ∙ bt);
   least = subst (λ z. Lowers (Some_of (λ (bind : DatatypeBinding). InArguments within bind.0 bind.2) binds) a.first z) (sym df)
       (subst (λ z. Lowers (Some_of (λ (bind : DatatypeBinding). InArguments within bind.0 bind.2) binds) z c.first) bf
-        (subst (λ n. Lowers (Some_of (λ (bind : DatatypeBinding). InArguments n bind.0 bind.2) binds) b.first c.first) (added a b (record { values = []; types = datatype_names binds }) bv bt) s.least));
+      (subst (λ n. Lowers (Some_of (λ (bind : DatatypeBinding). InArguments n bind.0 bind.2) binds) b.first c.first) (added a b (record { values = []; types = datatype_names binds }) bv bt) s.least));
 }
   where
     within : Names
@@ -141,16 +141,19 @@ abbrev pub FunctionsSeen : List (List ℕ × List Rule) → List (List ℕ × Li
 FunctionsSeen binds done a b = (b.names ≡ inside (variables_only (first_parts binds)) a.names) × Lowers (Some_of (λ (bind : List ℕ × List Rule). Some_of (UnboundInRule b.names) bind.1) done) a.first b.first
 
 pub functions-start : (binds : List (List ℕ × List Rule)) (a b : Seen) → b.names.values ≡ as_variables (first_parts binds) ++ a.names.values → b.names.types ≡ a.names.types → b.first ≡ a.first → FunctionsSeen binds [] a b
-functions-start binds a b v t f =
-    (added a b (variables_only (first_parts binds)) v t,
-     subst (λ z. Lowers (Some_of (λ (bind : List ℕ × List Rule). Some_of (UnboundInRule b.names) bind.1) []) z b.first) f
-       (sees-nil (λ (bind : List ℕ × List Rule). Some_of (UnboundInRule b.names) bind.1) b).least)
+functions-start binds a b v t f = (
+  added a b (variables_only (first_parts binds)) v t,
+  subst (λ z. Lowers (Some_of (λ (bind : List ℕ × List Rule). Some_of (UnboundInRule b.names) bind.1) []) z b.first) f
+      (sees-nil (λ (bind : List ℕ × List Rule). Some_of (UnboundInRule b.names) bind.1) b).least,
+)
 
 pub functions-next : (binds : List (List ℕ × List Rule)) (i : ℕ) (d x : List ℕ × List Rule) (a b c : Seen) → x ≡ get_or binds i d → i < length binds → FunctionsSeen binds (take i binds) a b
     → Sees (Some_of (UnboundInRule b.names) x.1) b c → FunctionsSeen binds (take (i + 1) binds) a c
-functions-next binds i d x a b c e h g s =
-    (s.same ∙ g.0, subst (λ n. Lowers (Some_of (λ (bind : List ℕ × List Rule). Some_of (UnboundInRule n) bind.1) (take (i + 1) binds)) a.first c.first) (sym s.same)
-      (sees-next (λ n (bind : List ℕ × List Rule). Some_of (UnboundInRule n) bind.1) binds i d x (record { names = b.names; first = a.first }) b c e h (record { same = refl; least = g.1 }) s).least)
+functions-next binds i d x a b c e h g s = (
+  s.same ∙ g.0,
+  subst (λ n. Lowers (Some_of (λ (bind : List ℕ × List Rule). Some_of (UnboundInRule n) bind.1) (take (i + 1) binds)) a.first c.first) (sym s.same)
+      (sees-next (λ n (bind : List ℕ × List Rule). Some_of (UnboundInRule n) bind.1) binds i d x (record { names = b.names; first = a.first }) b c e h (record { same = refl; least = g.1 }) s).least,
+)
 
 pub functions-whole : (binds : List (List ℕ × List Rule)) (i : ℕ) (a b : Seen) → length binds ≤ i → FunctionsSeen binds (take i binds) a b → SeesFunctions binds a b
 functions-whole binds i a b h g = record {
@@ -166,8 +169,8 @@ pub binds-next : (n : Names) (binds : List (Pat × Exp)) (i : ℕ) (d bind : Pat
     → BindsAll n (first_parts (take i binds)) names → Binds n bind.0 more → BindsAll n (first_parts (take (i + 1) binds)) (names ++ more)
 binds-next n binds i d bind names more e h all b =
     subst (λ ps. BindsAll n ps (names ++ more))
-      (sym (map-append (λ (z : Pat × Exp). z.0) (take i binds) (bind ∷ [])) ∙ ap first_parts (ap (λ y. take i binds ++ y ∷ []) e ∙ sym (take_more binds i d h)))
-      (binds-all-end all bind.0 more b)
+    (sym (map-append (λ (z : Pat × Exp). z.0) (take i binds) (bind ∷ [])) ∙ ap first_parts (ap (λ y. take i binds ++ y ∷ []) e ∙ sym (take_more binds i d h)))
+    (binds-all-end all bind.0 more b)
 
 pub sees-val : (binds : List (Pat × Exp)) (i : ℕ) (names : List (List ℕ)) (a b c : Seen) → length binds ≤ i → Sees (Some_of (InBinding a.names) (take i binds)) a b → BindsAll a.names (first_parts (take i binds)) names
     → c.names.values ≡ as_variables names ++ b.names.values → c.names.types ≡ b.names.types → c.first ≡ b.first → SeesVal binds a c

@@ -1,5 +1,5 @@
 -- What has no binding in an expression, by its form.
-use Rattle.std.proofs.Common.{◌+◌, ◌<◌, ◌++◌, take, length, get_or, ◌≡◌, ◌⊎◌, inl, inr, refl, sym, ◌∙◌, ap, subst, ℕ, Bool, true, false, List, [], ◌∷◌, Option, Some, None}
+use Rattle.std.proofs.Common.{◌+◌, ◌<◌, ◌++◌, take, length, get_or, ◌≡◌, ◌⊎◌, inl, inr, refl, sym, ◌∙◌, ap, subst, ℕ, List, [], ◌∷◌, Some, None}
 use Rattle.sml_syntax.specs.declared.tree.Ty.{Ty}
 use Rattle.sml_syntax.specs.declared.tree.Exp.{Exp}
 use Rattle.sml_syntax.specs.declared.tree.Dec.{Dec}
@@ -16,7 +16,7 @@ use Rattle.sml_syntax.specs.declared.tree.ExpForm.{ExpForm}
 use Rattle.sml_syntax.specs.Scope.{with_antiquoted}
 use Rattle.hm_scope.specs.Least.{Seen, Sees, Some_of, InPiece}
 use Rattle.hm_scope.proofs.Scopes.{InLet}
-use Rattle.hm_scope.proofs.Leasts.{sees-none, sees-to, sees-then, sees-nil, sees-two, sees-end, sees-lists, of-none}
+use Rattle.hm_scope.proofs.Leasts.{sees-to, sees-then, sees-nil, sees-two, sees-end, sees-lists, of-none}
 
 abbrev pub ExpCases : Names → Exp → ℕ → Type 0
 ExpCases n e place =
@@ -44,6 +44,7 @@ sees-exp e es rs a b c p r none no_name no_let s t = sees-to _ _ a c to from (se
     to : (place : ℕ) → Some_of (UnboundInExp a.names) es place ⊎ Some_of (UnboundInRule a.names) rs place → UnboundInExp a.names e place
     to place (inl x) = let y = subst (λ l. Some_of (UnboundInExp a.names) l place) (sym p) x in in_part y.1 y.2
     to place (inr x) = let y = subst (λ l. Some_of (UnboundInRule a.names) l place) (sym r) x in in_rule y.1 y.2
+
     go : (place : ℕ) → ExpCases a.names e place → Some_of (UnboundInExp a.names) es place ⊎ Some_of (UnboundInRule a.names) rs place
     go place (inl (name, f, h, k)) = absurd (no_name name f h)
     go place (inr (inl x)) = inl (subst (λ l. Some_of (UnboundInExp a.names) l place) p x)
@@ -51,6 +52,7 @@ sees-exp e es rs a b c p r none no_name no_let s t = sees-to _ _ a c to from (se
     go place (inr (inr (inr (inl (u, k, h))))) = absurd cc
     go place (inr (inr (inr (inr (inl (ds, xs, f, h)))))) = absurd (no_let ds xs f)
     go place (inr (inr (inr (inr (inr (ds, xs, f, more, g, h)))))) = absurd (no_let ds xs f)
+
     from : (place : ℕ) → UnboundInExp a.names e place → Some_of (UnboundInExp a.names) es place ⊎ Some_of (UnboundInRule a.names) rs place
     from place x = go place (exp-cases x)
 
@@ -65,6 +67,7 @@ sees-one P x a b s = sees-to _ _ a b to from s
   where
     to : (p : ℕ) → P x p → Some_of P (x ∷ []) p
     to p h = (x, first_one, h)
+
     from : (p : ℕ) → Some_of P (x ∷ []) p → P x p
     from p (y, first_one, h) = h
     from p (y, other_one i, h) = absurd (of-none i)
@@ -116,6 +119,7 @@ sees-name-unbound e name a b f h s = sees-to _ _ a b to from s
   where
     to : (place : ℕ) → place ≡ exp_start e → UnboundInExp a.names e place
     to place k = subst (UnboundInExp a.names e) (sym k) (unbound_name f h)
+
     go : (place : ℕ) → ExpCases a.names e place → place ≡ exp_start e
     go place (inl (other, g, x, k)) = k
     go place (inr (inl x)) = absurd (of-none (subst (λ l. Some_of (UnboundInExp a.names) (exp_parts l) place) f x).1)
@@ -126,6 +130,7 @@ sees-name-unbound e name a b f h s = sees-to _ _ a b to from s
         no-type e = absurd cc
     go place (inr (inr (inr (inr (inl (ds, xs, g, x)))))) = absurd cc
     go place (inr (inr (inr (inr (inr (ds, xs, g, more, i, x)))))) = absurd cc
+
     from : (place : ℕ) → UnboundInExp a.names e place → place ≡ exp_start e
     from place x = go place (exp-cases x)
 
@@ -135,9 +140,11 @@ sees-typed e x t a b c f s r = sees-to _ _ a c to from (sees-then (UnboundInExp 
     to : (place : ℕ) → UnboundInExp a.names x place ⊎ UnboundInType a.names [] t place → UnboundInExp a.names e place
     to place (inl h) = in_part (subst (λ l. IsOneOf x (exp_parts l)) (sym f) first_one) h
     to place (inr h) = in_constraint (ap exp_type f) h
+
     part : (place : ℕ) → Some_of (UnboundInExp a.names) (x ∷ []) place → UnboundInExp a.names x place
     part place (y, first_one, h) = h
     part place (y, other_one i, h) = absurd (of-none i)
+
     go : (place : ℕ) → ExpCases a.names e place → UnboundInExp a.names x place ⊎ UnboundInType a.names [] t place
     go place (inl (other, g, y, k)) = absurd cc
     go place (inr (inl y)) = inl (part place (subst (λ l. Some_of (UnboundInExp a.names) (exp_parts l) place) f y))
@@ -145,6 +152,7 @@ sees-typed e x t a b c f s r = sees-to _ _ a c to from (sees-then (UnboundInExp 
     go place (inr (inr (inr (inl (u, k, y))))) = inr (let same : u ≡ t = cc in subst (λ z. UnboundInType a.names [] z place) same y)
     go place (inr (inr (inr (inr (inl (ds, xs, g, y)))))) = absurd cc
     go place (inr (inr (inr (inr (inr (ds, xs, g, more, i, y)))))) = absurd cc
+
     from : (place : ℕ) → UnboundInExp a.names e place → UnboundInExp a.names x place ⊎ UnboundInType a.names [] t place
     from place h = go place (exp-cases h)
 
@@ -161,7 +169,7 @@ pub sees-pieces-next : (ps : List Piece) (i : ℕ) (d x : Piece) (a b c : Seen) 
     → Sees (Some_of (UnboundInExp a.names) (antiquoted (take (i + 1) ps))) a c
 sees-pieces-next ps i d x a b c e h s t =
     subst (λ l. Sees (Some_of (UnboundInExp a.names) l) a c) (sym (antiquoted-end (take i ps) x) ∙ ap antiquoted (ap (λ y. take i ps ++ y ∷ []) e ∙ sym (take_more ps i d h)))
-      (sees-lists UnboundInExp (antiquoted (take i ps)) (antiquoted (x ∷ [])) a b c s t)
+    (sees-lists UnboundInExp (antiquoted (take i ps)) (antiquoted (x ∷ [])) a b c s t)
 
 pub sees-plain : (piece : Piece) (text : List ℕ) (a : Seen) → out-Piece piece ≡ Piece-F.Plain text → Sees (InPiece a.names piece) a a
 sees-plain piece text a e = subst (λ q. Sees (Some_of (UnboundInExp a.names) (with_antiquoted q [])) a a) (sym e) (sees-nil (UnboundInExp a.names) a)
@@ -176,6 +184,7 @@ sees-let e ds es a b f s = sees-to _ _ a b to from s
     to : (place : ℕ) → InLet a.names ds es place → UnboundInExp a.names e place
     to place (inl h) = in_let f h
     to place (inr (more, g, (x, i, h))) = in_let_body f g i h
+
     go : (place : ℕ) → ExpCases a.names e place → InLet a.names ds es place
     go place (inl (other, g, y, k)) = absurd cc
     go place (inr (inl y)) = absurd (of-none (subst (λ l. Some_of (UnboundInExp a.names) (exp_parts l) place) f y).1)
@@ -188,5 +197,6 @@ sees-let e ds es a b f s = sees-to _ _ a b to from s
     go place (inr (inr (inr (inr (inr (xs, ys, g, more, h, y)))))) =
         let same : xs ≡ ds = cc in let alike : ys ≡ es = cc in
         inr (more, subst (λ z. AddsAll a.names z more) same h, subst (λ z. Some_of (UnboundInExp (inside more a.names)) z place) alike y)
+
     from : (place : ℕ) → UnboundInExp a.names e place → InLet a.names ds es place
     from place x = go place (exp-cases x)

@@ -44,6 +44,7 @@ lowers-then P Q f None (Some r) first (is, all) = (there is, rest)
     there : With None Q r → With f (λ p. P p ⊎ Q p) r
     there (inl e) = absurd cc
     there (inr y) = inr (inr y)
+
     rest : (p : ℕ) → With f (λ p. P p ⊎ Q p) p → r ≤ p
     rest p (inl e) = absurd (first p (inl e))
     rest p (inr (inl x)) = absurd (first p (inr x))
@@ -53,9 +54,11 @@ lowers-then P Q f (Some q) (Some r) (was, before) (is, all) = (there is, rest)
     wide : With f P q → With f (λ p. P p ⊎ Q p) q
     wide (inl e) = inl e
     wide (inr x) = inr (inl x)
+
     there : With (Some q) Q r → With f (λ p. P p ⊎ Q p) r
     there (inl e) = let h : q ≡ r = cc in subst (With f (λ p. P p ⊎ Q p)) h (wide was)
     there (inr y) = inr (inr y)
+
     rest : (p : ℕ) → With f (λ p. P p ⊎ Q p) p → r ≤ p
     rest p (inl e) = let h = before p (inl e) in let l = all q (inl refl) in omega arith
     rest p (inr (inl x)) = let h = before p (inr x) in let l = all q (inl refl) in omega arith
@@ -105,6 +108,7 @@ sees-end P y xs a b c s t = sees-to _ _ a c to from (sees-then (Some_of (P a.nam
     to : (p : ℕ) → Some_of (P a.names) xs p ⊎ P a.names y p → Some_of (P a.names) (xs ++ y ∷ []) p
     to p (inl (x, i, h)) = (x, one-of-front x y xs i, h)
     to p (inr h) = (y, one-of-end y xs, h)
+
     from : (p : ℕ) → Some_of (P a.names) (xs ++ y ∷ []) p → Some_of (P a.names) xs p ⊎ P a.names y p
     from p (x, i, h) = split-end (P a.names) y xs p x i h
 
@@ -114,6 +118,7 @@ sees-two P x y a b c s t = sees-to _ _ a c to from (sees-then (P a.names x) (λ 
     to : (p : ℕ) → P a.names x p ⊎ P a.names y p → Some_of (P a.names) (x ∷ y ∷ []) p
     to p (inl h) = (x, first_one, h)
     to p (inr h) = (y, other_one first_one, h)
+
     from : (p : ℕ) → Some_of (P a.names) (x ∷ y ∷ []) p → P a.names x p ⊎ P a.names y p
     from p (z, first_one, h) = inl h
     from p (z, other_one first_one, h) = inr h
@@ -164,5 +169,6 @@ sees-lists P xs ys a b c s t = sees-to _ _ a c to from (sees-then (Some_of (P a.
     to : (p : ℕ) → Some_of (P a.names) xs p ⊎ Some_of (P a.names) ys p → Some_of (P a.names) (xs ++ ys) p
     to p (inl (x, i, h)) = (x, one-of-left x xs ys i, h)
     to p (inr (x, i, h)) = (x, one-of-right x xs ys i, h)
+
     from : (p : ℕ) → Some_of (P a.names) (xs ++ ys) p → Some_of (P a.names) xs p ⊎ Some_of (P a.names) ys p
     from p (x, i, h) = split-lists (P a.names) xs ys p x i h

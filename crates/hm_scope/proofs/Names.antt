@@ -1,17 +1,15 @@
 -- What a pattern binds and what a declaration adds are determined; lists of them.
 use Rattle.std.proofs.Common.{◌⊎◌, inl, inr, ℤ, not, ◌+◌, ◌<◌, take, length, get_or, ◌≡◌, refl, sym, ◌∙◌, ap, subst, ℕ, Bool, true, false, List, [], ◌∷◌, ◌++◌, Option, Some, None}
-use Rattle.std.proofs.lemmas.List.{append-nil, append_assoc, take_more, take_all}
+use Rattle.std.proofs.lemmas.List.{append-nil, append_assoc, take_more}
 use Rattle.std.specs.Option.{option_eq}
 use mathlib.Core.Bool.{beq}
 use Rattle.sml_syntax.specs.declared.tree.PatForm.{PatForm, out-PatForm, out-roll-PatForm}
 use Rattle.sml_syntax.specs.declared.tree.PatForm.TheVariants as w
 use Rattle.sml_syntax.specs.declared.tree.PatForm.TheOpen.{PatForm-F}
 use Rattle.sml_syntax.specs.declared.tree.Pat.{Pat}
-use Rattle.sml_syntax.specs.declared.tree.Exp.{Exp}
-use Rattle.sml_syntax.specs.declared.tree.Rule.{Rule}
 use Rattle.sml_syntax.specs.declared.tree.Dec.{Dec}
 use Rattle.sml_syntax.specs.declared.tree.DecForm.TheOpen.{DecForm-F}
-use Rattle.sml_syntax.specs.Layers.{DecLayer, PatLayer, form_of_pat, form_of_dec}
+use Rattle.sml_syntax.specs.Layers.{DecLayer, form_of_pat, form_of_dec}
 use Rattle.sml_syntax.specs.Scope.{Names, Binds, BindsAll, binds_name, binds_none, binds_parts, binds_end, binds_more, Adds, AddsAll, adds_val, adds_rec, adds_abbrev, adds_data, adds_exn, adds_local, adds_nothing, adds_more, inside, variables_only, as_constructors, is_constructor, status, pat_name, pat_parts, first_parts, type_names, datatype_names, constructor_names}
 
 -- the names of a pattern that is a name

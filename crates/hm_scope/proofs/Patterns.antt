@@ -1,12 +1,12 @@
 -- What has no binding in a pattern, by its form.
-use Rattle.std.proofs.Common.{◌≡◌, ◌⊎◌, inl, inr, refl, sym, ◌∙◌, ap, subst, ℕ, Bool, true, false, List, [], ◌∷◌, Option, Some, None}
+use Rattle.std.proofs.Common.{◌≡◌, ◌⊎◌, inl, inr, refl, sym, ◌∙◌, ap, subst, ℕ, List, [], ◌∷◌, Some, None}
 use Rattle.sml_syntax.specs.declared.tree.Ty.{Ty}
 use Rattle.sml_syntax.specs.declared.tree.Pat.{Pat}
 use Rattle.sml_syntax.specs.declared.tree.PatForm.TheOpen.{PatForm-F}
 use Rattle.sml_syntax.specs.Layers.{form_of_pat}
 use Rattle.sml_syntax.specs.Scope.{Names, IsOneOf, first_one, other_one, pat_parts, pat_type, pat_start, status, UnboundInType, UnboundInPat, unbound_constructor, in_pat_part, in_pat_type}
 use Rattle.hm_scope.specs.Least.{Seen, Sees, Some_of}
-use Rattle.hm_scope.proofs.Leasts.{sees-none, sees-to, sees-then, sees-nil, of-none}
+use Rattle.hm_scope.proofs.Leasts.{sees-to, sees-then, sees-nil, of-none}
 
 abbrev pub PatCases : Names → Pat → ℕ → Type 0
 PatCases n p place =
@@ -26,10 +26,12 @@ sees-pats p ps a b e none no_con s = sees-to _ _ a b to from s
   where
     to : (place : ℕ) → Some_of (UnboundInPat a.names) ps place → UnboundInPat a.names p place
     to place x = let y = subst (λ l. Some_of (UnboundInPat a.names) l place) (sym e) x in in_pat_part y.1 y.2
+
     go : (place : ℕ) → PatCases a.names p place → Some_of (UnboundInPat a.names) ps place
     go place (inl (name, q, f, h, k)) = absurd (no_con name q f h)
     go place (inr (inl x)) = subst (λ l. Some_of (UnboundInPat a.names) l place) e x
     go place (inr (inr (t, f, h))) = absurd cc
+
     from : (place : ℕ) → UnboundInPat a.names p place → Some_of (UnboundInPat a.names) ps place
     from place x = go place (pat-cases x)
 
@@ -45,9 +47,11 @@ sees-pat-con p q name a b f bound s = sees-to _ _ a b to from s
   where
     to : (place : ℕ) → UnboundInPat a.names q place → UnboundInPat a.names p place
     to place x = in_pat_part (subst (λ l. IsOneOf q (pat_parts l)) (sym f) first_one) x
+
     part : (place : ℕ) → Some_of (UnboundInPat a.names) (q ∷ []) place → UnboundInPat a.names q place
     part place (r, first_one, h) = h
     part place (r, other_one i, h) = absurd (of-none i)
+
     go : (place : ℕ) → PatCases a.names p place → UnboundInPat a.names q place
     go place (inl (other, r, g, h, k)) = absurd (bound (let e : name ≡ other = cc in ap (λ z. status z a.names.values) e ∙ h))
     go place (inr (inl x)) = part place (subst (λ l. Some_of (UnboundInPat a.names) (pat_parts l) place) f x)
@@ -55,6 +59,7 @@ sees-pat-con p q name a b f bound s = sees-to _ _ a b to from s
       where
         none-typed : {t : Ty} → None ≡ Some t → ⊥
         none-typed e = absurd cc
+
     from : (place : ℕ) → UnboundInPat a.names p place → UnboundInPat a.names q place
     from place x = go place (pat-cases x)
 
@@ -65,13 +70,16 @@ sees-pat-unbound p q name a b c f h s r = sees-to _ _ a c to from (sees-then (λ
     to : (place : ℕ) → (place ≡ pat_start p) ⊎ UnboundInPat a.names q place → UnboundInPat a.names p place
     to place (inl e) = subst (UnboundInPat a.names p) (sym e) (unbound_constructor f h)
     to place (inr x) = in_pat_part (subst (λ l. IsOneOf q (pat_parts l)) (sym f) first_one) x
+
     part : (place : ℕ) → Some_of (UnboundInPat a.names) (q ∷ []) place → UnboundInPat a.names q place
     part place (r, first_one, h) = h
     part place (r, other_one i, h) = absurd (of-none i)
+
     go : (place : ℕ) → PatCases a.names p place → (place ≡ pat_start p) ⊎ UnboundInPat a.names q place
     go place (inl (other, u, g, x, k)) = inl k
     go place (inr (inl x)) = inr (part place (subst (λ l. Some_of (UnboundInPat a.names) (pat_parts l) place) f x))
     go place (inr (inr (t, e, x))) = absurd cc
+
     from : (place : ℕ) → UnboundInPat a.names p place → (place ≡ pat_start p) ⊎ UnboundInPat a.names q place
     from place x = go place (pat-cases x)
 
@@ -81,13 +89,16 @@ sees-pat-typed p q t a b c f s r = sees-to _ _ a c to from (sees-then (UnboundIn
     to : (place : ℕ) → UnboundInPat a.names q place ⊎ UnboundInType a.names [] t place → UnboundInPat a.names p place
     to place (inl x) = in_pat_part (subst (λ l. IsOneOf q (pat_parts l)) (sym f) first_one) x
     to place (inr x) = in_pat_type (ap pat_type f) x
+
     part : (place : ℕ) → Some_of (UnboundInPat a.names) (q ∷ []) place → UnboundInPat a.names q place
     part place (r, first_one, h) = h
     part place (r, other_one i, h) = absurd (of-none i)
+
     go : (place : ℕ) → PatCases a.names p place → UnboundInPat a.names q place ⊎ UnboundInType a.names [] t place
     go place (inl (other, u, g, x, k)) = absurd cc
     go place (inr (inl x)) = inl (part place (subst (λ l. Some_of (UnboundInPat a.names) (pat_parts l) place) f x))
     go place (inr (inr (u, e, x))) = inr (let same : u ≡ t = cc in subst (λ z. UnboundInType a.names [] z place) same x)
+
     from : (place : ℕ) → UnboundInPat a.names p place → UnboundInPat a.names q place ⊎ UnboundInType a.names [] t place
     from place x = go place (pat-cases x)
 

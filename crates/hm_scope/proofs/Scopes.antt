@@ -1,15 +1,14 @@
 -- Scopes that are entered and left.
-use Rattle.std.proofs.Common.{arith, min, zero, suc, ◌≡◌, ◌⊎◌, inl, inr, refl, sym, ◌∙◌, ap, subst, ℕ, ◌+◌, ◌-◌, ◌<◌, ◌≤◌, Bool, true, false, List, [], ◌∷◌, ◌++◌, map, take, drop, reverse, length, get_or, Option, Some, None}
-use Rattle.std.proofs.lemmas.List.{append-nil, append_assoc, reverse-append, reverse-reverse, length-reverse, length-append, take_more, take_all}
+use Rattle.std.proofs.Common.{arith, min, zero, suc, ◌≡◌, ◌⊎◌, inl, inr, refl, sym, ◌∙◌, ap, subst, ℕ, ◌+◌, ◌-◌, ◌<◌, ◌≤◌, Bool, List, [], ◌∷◌, ◌++◌, map, take, drop, reverse, length, get_or, Option}
+use Rattle.std.proofs.lemmas.List.{append_assoc, reverse-append, reverse-reverse, length-reverse, length-append, take_more, take_all}
 use Rattle.std.proofs.Math.Seq.{take-append_seam, drop-append_seam, drop-cons}
-use Rattle.sml_syntax.specs.declared.tree.Pat.{Pat}
 use Rattle.sml_syntax.specs.declared.tree.Exp.{Exp}
 use Rattle.sml_syntax.specs.declared.tree.Rule.{Rule, out-Rule}
 use Rattle.sml_syntax.specs.declared.tree.Dec.{Dec}
-use Rattle.sml_syntax.specs.Scope.{Names, IsOneOf, first_one, other_one, Binds, BindsAll, Adds, AddsAll, adds_nothing, adds_more, inside, variables_only, UnboundInPat, UnboundInExp, UnboundInRule, UnboundInDec, UnboundInDecs, in_pattern, in_body, in_first, in_rest}
+use Rattle.sml_syntax.specs.Scope.{Names, Binds, Adds, AddsAll, adds_nothing, adds_more, inside, variables_only, UnboundInPat, UnboundInExp, UnboundInRule, UnboundInDec, UnboundInDecs, in_pattern, in_body, in_first, in_rest}
 use Rattle.hm_scope.specs.Least.{IsLeast, With, Seen, Sees, Some_of, SeesDec, SeesDecs}
 use Rattle.hm_scope.proofs.Leasts.{Lowers, lowers-then, lowers-to, lowers-none}
-use Rattle.hm_scope.proofs.Names.{binds-same, adds-same, adds-all-same, adds-all-end, no_names, inside-nothing, inside-inside}
+use Rattle.hm_scope.proofs.Names.{binds-same, adds-same, adds-all-same, adds-all-end, no_names, inside-inside}
 
 -- names were added
 pub added : (a b : Seen) (more : Names) → b.names.values ≡ more.values ++ a.names.values → b.names.types ≡ more.types ++ a.names.types → b.names ≡ inside more a.names
@@ -33,17 +32,22 @@ sees-rule r names a b c d e s g cn cf t en ef = record {
   where
     scope : Names
     scope = inside (variables_only names) a.names
+
     bound : Binds a.names (out-Rule r).pat names
     bound = subst (λ n. Binds n (out-Rule r).pat names) s.same g
+
     second : Lowers (UnboundInExp scope (out-Rule r).body) b.first d.first
     second = subst (λ n. Lowers (UnboundInExp n (out-Rule r).body) b.first d.first) (cn ∙ ap (inside (variables_only names)) s.same)
         (subst (λ f. Lowers (UnboundInExp c.names (out-Rule r).body) f d.first) cf t.least)
+
     to : (p : ℕ) → UnboundInPat a.names (out-Rule r).pat p ⊎ UnboundInExp scope (out-Rule r).body p → UnboundInRule a.names r p
     to p (inl x) = in_pattern x
     to p (inr x) = in_body bound x
+
     go : (p : ℕ) → RuleAs a.names r p → UnboundInPat a.names (out-Rule r).pat p ⊎ UnboundInExp scope (out-Rule r).body p
     go p (inl x) = inl x
     go p (inr (others, h, x)) = inr (subst (λ z. UnboundInExp (inside (variables_only z) a.names) (out-Rule r).body p) (binds-same h names bound) x)
+
     from : (p : ℕ) → UnboundInRule a.names r p → UnboundInPat a.names (out-Rule r).pat p ⊎ UnboundInExp scope (out-Rule r).body p
     from p x = go p (rule-cases x)
 
@@ -56,12 +60,13 @@ sees-let-in ds es a b c d s t dn df = record {
   same = dn;
   least = lowers-to _ _ a.first d.first to from (subst (λ f. Lowers (λ p. UnboundInDecs a.names ds p ⊎ Some_of (UnboundInExp (inside s.more a.names)) es p) a.first f) (sym df)
       (lowers-then (UnboundInDecs a.names ds) (Some_of (UnboundInExp (inside s.more a.names)) es) a.first b.first c.first s.least
-        (subst (λ n. Lowers (Some_of (UnboundInExp n) es) b.first c.first) s.names t.least)));
+      (subst (λ n. Lowers (Some_of (UnboundInExp n) es) b.first c.first) s.names t.least)));
 }
   where
     to : (p : ℕ) → UnboundInDecs a.names ds p ⊎ Some_of (UnboundInExp (inside s.more a.names)) es p → InLet a.names ds es p
     to p (inl x) = inl x
     to p (inr x) = inr (s.more, s.adds, x)
+
     from : (p : ℕ) → InLet a.names ds es p → UnboundInDecs a.names ds p ⊎ Some_of (UnboundInExp (inside s.more a.names)) es p
     from p (inl x) = inl x
     from p (inr (more, g, x)) = inr (subst (λ z. Some_of (UnboundInExp (inside z a.names)) es p) (adds-all-same g s.more s.adds) x)
@@ -88,12 +93,13 @@ sees-local hidden shown a b c d s t dn df = record {
   names = dn;
   least = lowers-to _ _ a.first d.first to from (subst (λ f. Lowers (λ p. UnboundInDecs a.names hidden p ⊎ UnboundInDecs (inside s.more a.names) shown p) a.first f) (sym df)
       (lowers-then (UnboundInDecs a.names hidden) (UnboundInDecs (inside s.more a.names) shown) a.first b.first c.first s.least
-        (subst (λ n. Lowers (UnboundInDecs n shown) b.first c.first) s.names t.least)));
+      (subst (λ n. Lowers (UnboundInDecs n shown) b.first c.first) s.names t.least)));
 }
   where
     to : (p : ℕ) → UnboundInDecs a.names hidden p ⊎ UnboundInDecs (inside s.more a.names) shown p → InLocal a.names hidden shown p
     to p (inl x) = inl x
     to p (inr x) = inr (s.more, s.adds, x)
+
     from : (p : ℕ) → InLocal a.names hidden shown p → UnboundInDecs a.names hidden p ⊎ UnboundInDecs (inside s.more a.names) shown p
     from p (inl x) = inl x
     from p (inr (more, g, x)) = inr (subst (λ z. UnboundInDecs (inside z a.names) shown p) (adds-all-same g s.more s.adds) x)
@@ -126,6 +132,7 @@ decs-split (adds_more {scope = n} {d = e} {ds} {first} {rest} y ys) d p x = go (
     back : UnboundInDecs (inside first n) ds p ⊎ UnboundInDec (inside rest (inside first n)) d p → UnboundInDecs n (e ∷ ds) p ⊎ UnboundInDec (inside (inside rest first) n) d p
     back (inl z) = inl (in_rest y z)
     back (inr z) = inr (subst (λ w. UnboundInDec w d p) (sym (inside-inside rest first n)) z)
+
     go : (UnboundInDecs (inside first n) (ds ++ d ∷ []) p → UnboundInDecs (inside first n) ds p ⊎ UnboundInDec (inside rest (inside first n)) d p)
         → DecsAs n (e ∷ (ds ++ d ∷ [])) p → UnboundInDecs n (e ∷ ds) p ⊎ UnboundInDec (inside (inside rest first) n) d p
     go again (inl z) = inl (in_first z)

@@ -1,10 +1,10 @@
 -- What has no binding in a type, by its form.
-use Rattle.std.proofs.Common.{◌≡◌, ◌⊎◌, inl, inr, refl, sym, ◌∙◌, ap, subst, ℕ, ◌≤◌, ◌-◌, Bool, true, false, List, [], ◌∷◌, Option, Some, None, length}
+use Rattle.std.proofs.Common.{◌≡◌, ◌⊎◌, inl, inr, refl, sym, ◌∙◌, ap, subst, ℕ, true, false, List, [], ◌∷◌}
 use Rattle.sml_syntax.specs.declared.tree.Ty.{Ty}
 use Rattle.sml_syntax.specs.declared.tree.TyForm.TheOpen.{TyForm-F}
-use Rattle.sml_syntax.specs.Scope.{Names, IsOneOf, first_one, other_one, form_of_type, type_parts, type_start, type_name_place, has_name, UnboundInType, unbound_variable, unbound_type, in_type_part}
+use Rattle.sml_syntax.specs.Scope.{Names, form_of_type, type_parts, type_start, type_name_place, has_name, UnboundInType, unbound_variable, unbound_type, in_type_part}
 use Rattle.hm_scope.specs.Least.{Seen, Sees, Some_of}
-use Rattle.hm_scope.proofs.Leasts.{sees-none, sees-to, sees-then, sees-two, of-none}
+use Rattle.hm_scope.proofs.Leasts.{sees-to, sees-then, sees-two, of-none}
 
 abbrev pub TypeCases : Names → List (List ℕ) → Ty → ℕ → Type 0
 TypeCases n vs t p =
@@ -36,7 +36,7 @@ pub sees-parts : (vs : List (List ℕ)) (t : Ty) (ts : List Ty) (a b : Seen) →
     → Sees (Some_of (UnboundInType a.names vs) ts) a b → Sees (UnboundInType a.names vs t) a b
 sees-parts vs t ts a b e no_var no_con s =
     sees-to _ _ a b (λ p h. to-parts a.names vs t p (subst (λ l. Some_of (UnboundInType a.names vs) l p) (sym e) h))
-      (λ p h. subst (λ l. Some_of (UnboundInType a.names vs) l p) e (from-parts a.names vs t no_var no_con p h)) s
+    (λ p h. subst (λ l. Some_of (UnboundInType a.names vs) l p) e (from-parts a.names vs t no_var no_con p h)) s
 
 pub sees-tuple : (vs : List (List ℕ)) (t : Ty) (ts : List Ty) (a b : Seen) → form_of_type t ≡ TyForm-F.Tuple ts → Sees (Some_of (UnboundInType a.names vs) ts) a b → Sees (UnboundInType a.names vs t) a b
 sees-tuple vs t ts a b f s = sees-parts vs t ts a b (ap type_parts f) (λ name g. absurd cc) (λ name us g x. absurd cc) s
@@ -53,6 +53,7 @@ sees-con vs t name ts a b f h s =
   where
     same : (other : List ℕ) (us : List Ty) → form_of_type t ≡ TyForm-F.Con other us → name ≡ other
     same other us g = cc
+
     not-both : {other : List ℕ} → name ≡ other → has_name other a.names.types ≡ false → ⊥
     not-both e x = absurd cc
 
@@ -63,10 +64,12 @@ sees-con-unbound vs t name ts place a b c f h e s r = sees-to _ _ a c to from (s
     to : (p : ℕ) → (p ≡ place) ⊎ Some_of (UnboundInType a.names vs) ts p → UnboundInType a.names vs t p
     to p (inl g) = subst (UnboundInType a.names vs t) (sym (g ∙ e)) (unbound_type f h)
     to p (inr x) = to-parts a.names vs t p (subst (λ l. Some_of (UnboundInType a.names vs) (type_parts l) p) (sym f) x)
+
     go : (p : ℕ) → TypeCases a.names vs t p → (p ≡ place) ⊎ Some_of (UnboundInType a.names vs) ts p
     go p (inl (other, g, x, y)) = absurd cc
     go p (inr (inl (other, us, g, x, y))) = inl (let k : name ≡ other = cc in y ∙ ap (λ z. type_name_place z t) (sym k) ∙ sym e)
     go p (inr (inr x)) = inr (subst (λ l. Some_of (UnboundInType a.names vs) (type_parts l) p) f x)
+
     from : (p : ℕ) → UnboundInType a.names vs t p → (p ≡ place) ⊎ Some_of (UnboundInType a.names vs) ts p
     from p x = go p (type-cases x)
 
@@ -76,11 +79,14 @@ sees-var-unbound vs t name a b f h s = sees-to _ _ a b to from s
   where
     to : (p : ℕ) → p ≡ type_start t → UnboundInType a.names vs t p
     to p g = subst (UnboundInType a.names vs t) (sym g) (unbound_variable f h)
+
     none : (p : ℕ) → Some_of (UnboundInType a.names vs) (type_parts (form_of_type t)) p → ⊥
     none p x = of-none (subst (λ l. Some_of (UnboundInType a.names vs) (type_parts l) p) f x).1
+
     go : (p : ℕ) → TypeCases a.names vs t p → p ≡ type_start t
     go p (inl (other, g, x, y)) = y
     go p (inr (inl (other, us, g, x, y))) = absurd cc
     go p (inr (inr x)) = absurd (none p x)
+
     from : (p : ℕ) → UnboundInType a.names vs t p → p ≡ type_start t
     from p x = go p (type-cases x)

@@ -1,12 +1,9 @@
 -- The least place that something holds of, and what a search for it has seen. Of this project.
-use Rattle.std.specs.Prelude.{◌≡◌, ◌⊎◌, ℕ, ◌≤◌, nat_lt, cond, List, [], ◌∷◌, Option, Some, None}
-use Rattle.sml_syntax.specs.declared.tree.Exp.{Exp}
-use Rattle.sml_syntax.specs.declared.tree.Pat.{Pat}
+use Rattle.std.specs.Prelude.{◌≡◌, ◌⊎◌, ℕ, ◌≤◌, List, [], ◌∷◌, Option, Some, None}
 use Rattle.sml_syntax.specs.declared.tree.Ty.{Ty}
 use Rattle.sml_syntax.specs.declared.tree.Dec.{Dec}
-use Rattle.sml_syntax.specs.declared.tree.Rule.{Rule}
 use Rattle.sml_syntax.specs.declared.tree.Piece.{Piece}
-use Rattle.sml_syntax.specs.Scope.{Names, IsOneOf, Binds, BindsAll, Adds, AddsAll, inside, variables_only, antiquoted, Constructors, UnboundInType, UnboundInPat, UnboundInExp, UnboundInRule, UnboundInDec, UnboundInDecs, first_parts, TypeBinding, DatatypeBinding, as_constructors, constructor_names, type_names, datatype_names}
+use Rattle.sml_syntax.specs.Scope.{Names, IsOneOf, Adds, AddsAll, inside, antiquoted, Constructors, UnboundInType, UnboundInExp, UnboundInDec, UnboundInDecs, first_parts, TypeBinding, DatatypeBinding, as_constructors, constructor_names, type_names, datatype_names}
 
 -- the least place that P holds of, none where it holds of none
 abbrev pub IsLeast : (ℕ → Type 0) → Option ℕ → Type 0

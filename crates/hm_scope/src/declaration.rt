@@ -8,7 +8,9 @@ use sml_syntax::{Dec, DecForm, Listed, NoMemory, Rule, Text, Ty};
 use std::alloc::Global;
 
 type TypeBinding = (Listed<Text>, Text, Ty);
+
 type Constructor = (Text, Option<Ty>);
+
 type DatatypeBinding = (Listed<Text>, Text, Listed<Constructor>);
 
 impl Search {
@@ -163,7 +165,11 @@ fn datatype_names(alloc: Global, binds: &[DatatypeBinding]) -> Result<Vec<Text>,
 }
 
 // Adds the names of constructors.
-fn push_constructors(alloc: Global, names: &mut Vec<Text>, constructors: &[Constructor]) -> Result<(), NoMemory>
+fn push_constructors(
+    alloc: Global,
+    names: &mut Vec<Text>,
+    constructors: &[Constructor],
+) -> Result<(), NoMemory>
     ensures { OnOk result (names.new.items ≡ names.old.items ++ first_parts constructors.now) }
 {
     for constructor in constructors {

@@ -92,7 +92,8 @@ impl Search {
         let mut left = names.len();
         while 0 < left {
             left -= 1;
-            self.values.push((names[left].try_copy(self.alloc)?, constructor))?;
+            self.values
+                .push((names[left].try_copy(self.alloc)?, constructor))?;
         }
         Ok(())
     }

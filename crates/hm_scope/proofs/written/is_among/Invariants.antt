@@ -1,4 +1,4 @@
-use Rattle.std.proofs.Common.{◌≡◌, ◌-◌, drop}
+use Rattle.std.proofs.Common.{◌≡◌, drop}
 use Rattle.sml_syntax.specs.Scope.{has_name}
 use Rattle.hm_scope.proofs.written.is_among.Given as goal
 

@@ -1,20 +1,20 @@
-use Rattle.std.proofs.Common.{arith, ◌≡◌, ◌++◌, ◌∷◌,  ℕ, length, take, Bool, true, false, List, [], subst, sym, ap, ◌∙◌}
+use Rattle.std.proofs.Common.{◌++◌, ◌∷◌, [], subst, sym, ap, ◌∙◌}
 use Rattle.std.proofs.lemmas.Result.{on_ok_weaker}
-use Rattle.sml_syntax.specs.Scope.{status, pat_name, pat_parts, Binds, BindsAll}
-use Rattle.hm_scope.proofs.Forms.{pat-con, pat-tuple, pat-list, pat-typed, pat-name, pat-any, pat-unit}
+use Rattle.sml_syntax.specs.Scope.{status, pat_name, pat_parts}
+use Rattle.hm_scope.proofs.Forms.{pat-con, pat-tuple, pat-list, pat-typed, pat-name}
 use Rattle.hm_scope.proofs.Names.{Grows, GrowsAll, grows-parts, grows-nothing, grows-leaf, grows-part, grows-next, grows-name, grows-constructor, is-variable, not-constructor, a-constructor, known-constructor, leaf}
 use Rattle.hm_scope.proofs.search.Search.+bound.Goals as goal
 
 pub bound-returns-in_ok-push-in-Name : goal.bound-returns-in_ok-push-in-Name
 bound-returns-in_ok-push-in-Name t c =
     subst (λ new. Grows c.args.self.now.names c.args.p.now c.args.names.now.items new) (sym (c.in_ok-push-in-Name.ensures.items ∙ ap (λ x. c.args.names.now.items ++ x ∷ []) c.in_ok-try_copy-in-Name.ensures))
-      (grows-name c.args.self.now.names c.args.p.now c.in-Name.name c.args.names.now.items (ap pat_name (pat-name c.in-Name.name c.in-Name.is))
-        (is-variable c.status.result c.args.self.now.names c.in-Name.name (ap (λ z. status z c.args.self.now.names.values) (sym c.as_bytes.ensures) ∙ sym c.status.ensures) (not-constructor c.status.result (sym c.ne.ensures ∙ c.if-ne.true))))
+    (grows-name c.args.self.now.names c.args.p.now c.in-Name.name c.args.names.now.items (ap pat_name (pat-name c.in-Name.name c.in-Name.is))
+    (is-variable c.status.result c.args.self.now.names c.in-Name.name (ap (λ z. status z c.args.self.now.names.values) (sym c.as_bytes.ensures) ∙ sym c.status.ensures) (not-constructor c.status.result (sym c.ne.ensures ∙ c.if-ne.true))))
 
 pub bound-returns-else-ne : goal.bound-returns-else-ne
 bound-returns-else-ne t c =
     grows-constructor c.args.self.now.names c.args.p.now c.in-Name.name c.args.names.now.items (ap pat_name (pat-name c.in-Name.name c.in-Name.is))
-      (known-constructor c.args.self.now.names c.in-Name.name (ap (λ z. status z c.args.self.now.names.values) (sym c.as_bytes.ensures) ∙ sym c.status.ensures ∙ a-constructor c.status.result (sym c.ne.ensures ∙ c.if-ne.false)))
+    (known-constructor c.args.self.now.names c.in-Name.name (ap (λ z. status z c.args.self.now.names.values) (sym c.as_bytes.ensures) ∙ sym c.status.ensures ∙ a-constructor c.status.result (sym c.ne.ensures ∙ c.if-ne.false)))
 
 pub bound-returns-in-Tuple : goal.bound-returns-in-Tuple
 bound-returns-in-Tuple t c = on_ok_weaker _ (λ g. grows-parts c.args.self.now.names c.args.p.now c.in-Tuple.ps c.args.names.now.items c.bound_all.new.names.items (ap pat_name (pat-tuple c.in-Tuple.ps c.in-Tuple.is)) (ap pat_parts (pat-tuple c.in-Tuple.ps c.in-Tuple.is))

@@ -1,6 +1,6 @@
-use Rattle.std.proofs.Common.{arith, ◌≡◌, length, take, ℕ, Bool, true, false, List, [], subst, sym, ap, ◌∙◌}
-use Rattle.sml_syntax.specs.Scope.{UnboundInType, UnboundInPat, status}
-use Rattle.hm_scope.specs.Least.{Sees, Some_of}
+use Rattle.std.proofs.Common.{arith, ◌≡◌, subst, sym, ap, ◌∙◌}
+use Rattle.sml_syntax.specs.Scope.{UnboundInPat, status}
+use Rattle.hm_scope.specs.Least.{Sees}
 use Rattle.hm_scope.proofs.Leasts.{seen-as, sees-next, sees-whole}
 use Rattle.hm_scope.proofs.Leasts.{none_of, not_none}
 use Rattle.hm_scope.proofs.Forms.{pat-con, pat-tuple, pat-list, pat-typed}

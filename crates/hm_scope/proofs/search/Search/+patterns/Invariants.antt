@@ -1,4 +1,4 @@
-use Rattle.std.proofs.Common.{◌≡◌, take}
+use Rattle.std.proofs.Common.{take}
 use Rattle.sml_syntax.specs.Scope.{UnboundInPat}
 use Rattle.hm_scope.specs.Least.{Sees, Some_of}
 use Rattle.hm_scope.proofs.search.Search.+patterns.Given as goal

@@ -1,9 +1,8 @@
-use Rattle.std.proofs.Common.{arith, ◌≡◌, ◌++◌, ◌+◌, ℕ, length, take, Bool, true, false, List, [], subst, sym, ap, ◌∙◌}
-use Rattle.std.proofs.lemmas.List.{length-append, take_more, take_all}
+use Rattle.std.proofs.Common.{arith, ◌++◌, ◌+◌, length, take, [], subst, sym, ap, ◌∙◌}
+use Rattle.std.proofs.lemmas.List.{length-append, take_all}
 use Rattle.std.proofs.lemmas.Result.{on_ok_weaker}
-use Rattle.sml_syntax.specs.declared.tree.Rule.{Rule, out-Rule}
-use Rattle.sml_syntax.specs.Scope.{Names, status, Binds, BindsAll, binds_end, UnboundInExp, UnboundInRule, UnboundInType, inside, variables_only, as_variables, antiquoted, first_parts}
-use Rattle.hm_scope.specs.Least.{Sees, Some_of, SeesDec, SeesDecs, SeesAbbreviations, SeesDatatypes, SeesExceptions}
+use Rattle.sml_syntax.specs.Scope.{status, Binds, BindsAll, binds_end, UnboundInExp, UnboundInRule, inside, variables_only, as_variables, antiquoted, first_parts}
+use Rattle.hm_scope.specs.Least.{Sees, Some_of, SeesDecs, SeesAbbreviations, SeesDatatypes, SeesExceptions}
 use Rattle.hm_scope.proofs.Leasts.{seen-as, sees-next, sees-whole, sees-nil, none_of, not_none}
 use Rattle.hm_scope.proofs.Forms.{exp-name, exp-tuple, exp-list, exp-seq, exp-app, exp-let, exp-fn, exp-case, exp-handle, exp-raise, exp-if, exp-both, exp-either, exp-quote, exp-typed, dec-val, dec-valrec, dec-abbrev, dec-datadef, dec-exndef, dec-local, piece-plain, piece-anti}
 use Rattle.hm_scope.proofs.Expressions.{sees-tuple-exp, sees-list-exp, sees-seq, sees-app, sees-both, sees-either, sees-raise, sees-if, sees-quote, sees-fn, sees-case, sees-handle, sees-name, sees-name-unbound, sees-typed, sees-pieces-next, sees-plain, sees-anti, sees-let}
@@ -104,14 +103,13 @@ pub dec-returns-in-ExnDef : goal.dec-returns-in-ExnDef
 dec-returns-in-ExnDef t c = on_ok_weaker _ (λ s. sees-dec-exceptions c.args.d.now c.in-ExnDef.binds c.args.self.now c.exceptions.new.self (dec-exndef c.in-ExnDef.binds c.in-ExnDef.is) (subst (λ l. SeesExceptions l c.args.self.now c.exceptions.new.self) c.as_slice-in-ExnDef.ensures s)) c.exceptions.ensures
 
 pub rule-returns : goal.rule-returns
-rule-returns t c = 
+rule-returns t c =
     let b = c.in_ok-bound.ensures in
     let scope = added c.pat.new.self c.add_values.new.self (variables_only b.0)
-          (c.in_ok-add_values.ensures.values ∙ ap (λ z. as_variables z ++ c.pat.new.self.names.values) (c.as_slice.ensures.value ∙ b.2 ∙ ap (λ z. z ++ b.0) c.new-names.ensures.items)) c.in_ok-add_values.ensures.types in
+    (c.in_ok-add_values.ensures.values ∙ ap (λ z. as_variables z ++ c.pat.new.self.names.values) (c.as_slice.ensures.value ∙ b.2 ∙ ap (λ z. z ++ b.0) c.new-names.ensures.items)) c.in_ok-add_values.ensures.types in
     let u = c.in_ok-exp.ensures in
     let left = c.cut.ensures (variables_only b.0) c.pat.new.self.names (u.same ∙ scope) c.depth-outer.ensures.values c.depth-outer.ensures.types in
     sees-rule c.args.rule.now b.0 c.args.self.now c.pat.new.self c.add_values.new.self c.exp.new.self c.cut.new.self c.pat.ensures b.1 scope c.in_ok-add_values.ensures.first u (ap (λ z. z.names) left) (ap (λ z. z.first) left)
-
 
 pub exp-returns-then-is_none : goal.exp-returns-then-is_none
 exp-returns-then-is_none t c = sees-name-unbound c.args.e.now c.in-Name.name c.args.self.now c.find.new.self (exp-name c.in-Name.name c.in-Name.is)
@@ -128,25 +126,26 @@ pub dec-loop-bind-init : goal.dec-loop-bind-init
 dec-loop-bind-init t c = (sees-nil _ c.args.self.now, subst (λ l. BindsAll c.args.self.now.names [] l) (sym c.new-names.ensures.items) binds_end)
 
 pub dec-loop-bind-preserved : goal.dec-loop-bind-preserved
-dec-loop-bind-preserved t c = 
+dec-loop-bind-preserved t c =
     let b = c.in_ok-bound-in-Val.ensures in
-    let same = c.in_ok-exp-in-Val.ensures.same ∙ c.pat.ensures.same ∙ c.loop-bind.invariant.0.same in
-    (sees-next (λ n. InBinding n) c.as_slice-bind-items.result.now c.loop-bind.bind-index _ c.bind-item.result c.args.self.now c.loop-bind.self c.exp.new.self c.bind-item.is c.loop-bind-test.true c.loop-bind.invariant.0
-       (sees-binding c.bind-item.result c.loop-bind.self c.pat.new.self c.exp.new.self c.pat.ensures c.in_ok-exp-in-Val.ensures),
-     subst (BindsAll c.args.self.now.names (first_parts (take (c.loop-bind.bind-index + 1) c.as_slice-bind-items.result.now))) (sym b.2)
-       (binds-next c.args.self.now.names c.as_slice-bind-items.result.now c.loop-bind.bind-index _ c.bind-item.result c.loop-bind.names.items b.0 c.bind-item.is c.loop-bind-test.true c.loop-bind.invariant.1
-         (subst (λ n. Binds n c.bind-item.result.0 b.0) same b.1)))
+    let same = c.in_ok-exp-in-Val.ensures.same ∙ c.pat.ensures.same ∙ c.loop-bind.invariant.0.same in (
+      sees-next (λ n. InBinding n) c.as_slice-bind-items.result.now c.loop-bind.bind-index _ c.bind-item.result c.args.self.now c.loop-bind.self c.exp.new.self c.bind-item.is c.loop-bind-test.true c.loop-bind.invariant.0
+          (sees-binding c.bind-item.result c.loop-bind.self c.pat.new.self c.exp.new.self c.pat.ensures c.in_ok-exp-in-Val.ensures),
+      subst (BindsAll c.args.self.now.names (first_parts (take (c.loop-bind.bind-index + 1) c.as_slice-bind-items.result.now))) (sym b.2)
+          (binds-next c.args.self.now.names c.as_slice-bind-items.result.now c.loop-bind.bind-index _ c.bind-item.result c.loop-bind.names.items b.0 c.bind-item.is c.loop-bind-test.true c.loop-bind.invariant.1
+          (subst (λ n. Binds n c.bind-item.result.0 b.0) same b.1)),
+    )
 
 pub dec-returns-in_ok-add_values-in-Val : goal.dec-returns-in_ok-add_values-in-Val
 dec-returns-in_ok-add_values-in-Val t c = sees-dec-val c.args.d.now c.in-Val.binds c.args.self.now c.add_values.new.self (dec-val c.in-Val.binds c.in-Val.is)
     (subst (λ l. SeesVal l c.args.self.now c.add_values.new.self) c.as_slice-bind-items.ensures
-      (sees-val c.as_slice-bind-items.result.now c.loop-bind.bind-index c.loop-bind.names.items c.args.self.now c.loop-bind.self c.add_values.new.self (omega (arith, c.loop-bind-test.false)) c.loop-bind.invariant.0 c.loop-bind.invariant.1
-        (c.in_ok-add_values-in-Val.ensures.values ∙ ap (λ z. as_variables z ++ c.loop-bind.self.names.values) c.as_slice.ensures.value) c.in_ok-add_values-in-Val.ensures.types c.in_ok-add_values-in-Val.ensures.first))
+    (sees-val c.as_slice-bind-items.result.now c.loop-bind.bind-index c.loop-bind.names.items c.args.self.now c.loop-bind.self c.add_values.new.self (omega (arith, c.loop-bind-test.false)) c.loop-bind.invariant.0 c.loop-bind.invariant.1
+    (c.in_ok-add_values-in-Val.ensures.values ∙ ap (λ z. as_variables z ++ c.loop-bind.self.names.values) c.as_slice.ensures.value) c.in_ok-add_values-in-Val.ensures.types c.in_ok-add_values-in-Val.ensures.first))
 
 pub dec-loop-bind-2-init : goal.dec-loop-bind-2-init
 dec-loop-bind-2-init t c = functions-start c.as_slice-bind-items-in-ValRec.result.now c.args.self.now c.add_values-in-ValRec.new.self
     (c.in_ok-add_values-in-ValRec.ensures.values ∙ ap (λ z. as_variables z ++ c.args.self.now.names.values)
-      (c.as_slice-in-ValRec-2.ensures.value ∙ c.in_ok-names-in-ValRec.ensures ∙ ap first_parts (c.as_slice-in-ValRec.ensures ∙ sym c.as_slice-bind-items-in-ValRec.ensures)))
+    (c.as_slice-in-ValRec-2.ensures.value ∙ c.in_ok-names-in-ValRec.ensures ∙ ap first_parts (c.as_slice-in-ValRec.ensures ∙ sym c.as_slice-bind-items-in-ValRec.ensures)))
     c.in_ok-add_values-in-ValRec.ensures.types c.in_ok-add_values-in-ValRec.ensures.first
 
 pub dec-loop-bind-2-preserved : goal.dec-loop-bind-2-preserved
@@ -156,17 +155,17 @@ dec-loop-bind-2-preserved t c = functions-next c.as_slice-bind-items-in-ValRec.r
 pub dec-returns-after-loop-bind-2 : goal.dec-returns-after-loop-bind-2
 dec-returns-after-loop-bind-2 t c = sees-dec-functions c.args.d.now c.in-ValRec.binds c.args.self.now c.loop-bind-2.self (dec-valrec c.in-ValRec.binds c.in-ValRec.is)
     (subst (λ l. SeesFunctions l c.args.self.now c.loop-bind-2.self) c.as_slice-bind-items-in-ValRec.ensures
-      (functions-whole c.as_slice-bind-items-in-ValRec.result.now c.loop-bind-2.bind-index c.args.self.now c.loop-bind-2.self (omega (arith, c.loop-bind-2-test.false)) c.loop-bind-2.invariant))
+    (functions-whole c.as_slice-bind-items-in-ValRec.result.now c.loop-bind-2.bind-index c.args.self.now c.loop-bind-2.self (omega (arith, c.loop-bind-2-test.false)) c.loop-bind-2.invariant))
 
 pub dec-returns-in_ok-hide-in-Local : goal.dec-returns-in_ok-hide-in-Local
 dec-returns-in_ok-hide-in-Local t c =
     let s = subst (λ l. SeesDecs l c.args.self.now c.decs.new.self) c.as_slice-in-Local.ensures c.in_ok-decs-in-Local.ensures in
     let u = subst (λ l. SeesDecs l c.decs.new.self c.decs-in-Local.new.self) c.as_slice-in-Local-2.ensures c.in_ok-decs-in-Local-2.ensures in
     let left = c.in_ok-hide-in-Local.ensures u.more s.more c.args.self.now.names (u.names ∙ ap (inside u.more) s.names) c.depth-outer.ensures.values c.depth-outer.ensures.types
-          (c.depth-inner.ensures.values ∙ ap (λ n. length n.values) s.names ∙ length-append s.more.values c.args.self.now.names.values)
-          (c.depth-inner.ensures.types ∙ ap (λ n. length n.types) s.names ∙ length-append s.more.types c.args.self.now.names.types) in
+    (c.depth-inner.ensures.values ∙ ap (λ n. length n.values) s.names ∙ length-append s.more.values c.args.self.now.names.values)
+    (c.depth-inner.ensures.types ∙ ap (λ n. length n.types) s.names ∙ length-append s.more.types c.args.self.now.names.types) in
     sees-dec-local c.args.d.now c.in-Local.hidden c.in-Local.shown c.args.self.now c.hide.new.self (dec-local c.in-Local.hidden c.in-Local.shown c.in-Local.is)
-      (sees-local c.in-Local.hidden c.in-Local.shown c.args.self.now c.decs.new.self c.decs-in-Local.new.self c.hide.new.self s u (ap (λ z. z.names) left) (ap (λ z. z.first) left))
+    (sees-local c.in-Local.hidden c.in-Local.shown c.args.self.now c.decs.new.self c.decs-in-Local.new.self c.hide.new.self s u (ap (λ z. z.names) left) (ap (λ z. z.first) left))
 
 pub exp-returns-in_ok-exps-in-Let : goal.exp-returns-in_ok-exps-in-Let
 exp-returns-in_ok-exps-in-Let t c =
@@ -174,4 +173,4 @@ exp-returns-in_ok-exps-in-Let t c =
     let u = seen-as _ _ _ _ _ c.as_slice-in-Let-2.ensures c.in_ok-exps-in-Let.ensures in
     let left = c.cut.ensures s.more c.args.self.now.names (u.same ∙ s.names) c.depth-outer.ensures.values c.depth-outer.ensures.types in
     sees-let c.args.e.now c.in-Let.ds c.in-Let.es c.args.self.now c.cut.new.self (exp-let c.in-Let.ds c.in-Let.es c.in-Let.is)
-      (sees-let-in c.in-Let.ds c.in-Let.es c.args.self.now c.decs.new.self c.exps-in-Let.new.self c.cut.new.self s u (ap (λ z. z.names) left) (ap (λ z. z.first) left))
+    (sees-let-in c.in-Let.ds c.in-Let.es c.args.self.now c.decs.new.self c.exps-in-Let.new.self c.cut.new.self s u (ap (λ z. z.names) left) (ap (λ z. z.first) left))

@@ -1,4 +1,4 @@
-use Rattle.std.proofs.Common.{◌≡◌, take, ℕ, List}
+use Rattle.std.proofs.Common.{take}
 use Rattle.sml_syntax.specs.Scope.{UnboundInExp, UnboundInRule, BindsAll, antiquoted, first_parts}
 use Rattle.hm_scope.specs.Least.{Sees, Some_of, SeesDecs}
 use Rattle.hm_scope.proofs.Declarations.{InBinding, FunctionsSeen}

@@ -1,4 +1,4 @@
-use Rattle.std.proofs.Common.{arith, ◌≡◌, length, take, ℕ, Bool, true, false, List, subst, sym, ap, ◌∙◌}
+use Rattle.std.proofs.Common.{arith, ◌≡◌, subst, sym, ap, ◌∙◌}
 use Rattle.sml_syntax.specs.Scope.{UnboundInType, has_name}
 use Rattle.hm_scope.specs.Least.{Sees, Some_of}
 use Rattle.hm_scope.proofs.Leasts.{seen-as, sees-next, sees-whole}

@@ -1,4 +1,4 @@
-use Rattle.std.proofs.Common.{◌≡◌, ◌++◌, ap, ◌∙◌}
+use Rattle.std.proofs.Common.{◌++◌, ap, ◌∙◌}
 use Rattle.hm_scope.proofs.Declarations.{sees-abbreviations}
 use Rattle.hm_scope.proofs.search.Search.abbreviation_group.Goals as goal
 

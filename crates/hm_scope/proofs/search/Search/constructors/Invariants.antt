@@ -1,4 +1,4 @@
-use Rattle.std.proofs.Common.{◌≡◌, take}
+use Rattle.std.proofs.Common.{take}
 use Rattle.hm_scope.specs.Least.{Sees, InArguments}
 use Rattle.hm_scope.proofs.search.Search.constructors.Given as goal
 

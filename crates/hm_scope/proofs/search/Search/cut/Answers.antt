@@ -1,4 +1,4 @@
-use Rattle.std.proofs.Common.{◌≡◌, reverse, take, ap, ◌∙◌}
+use Rattle.std.proofs.Common.{reverse, ap, ◌∙◌}
 use Rattle.hm_scope.proofs.Scopes.{cut-list, seen-made}
 use Rattle.hm_scope.proofs.search.Search.cut.Goals as goal
 

@@ -1,4 +1,4 @@
-use Rattle.std.proofs.Common.{◌≡◌, ◌-◌, ◌≤◌, take, reverse, length}
+use Rattle.std.proofs.Common.{◌≡◌, ◌≤◌, take, reverse, length}
 use Rattle.sml_syntax.specs.Scope.{has_name}
 use Rattle.hm_scope.proofs.search.Search.has_type.Given as goal
 

@@ -1,4 +1,4 @@
-use Rattle.std.proofs.Common.{◌≡◌, ◌-◌, ◌≤◌, take, reverse, length}
+use Rattle.std.proofs.Common.{◌≡◌, ◌≤◌, take, reverse, length}
 use Rattle.sml_syntax.specs.Scope.{status}
 use Rattle.hm_scope.proofs.search.Search.status.Given as goal
 
