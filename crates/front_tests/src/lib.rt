@@ -11,3 +11,5 @@ mod copies;
 mod lex_table;
 #[cfg(test)]
 mod parse_table;
+#[cfg(test)]
+mod scope_table;
