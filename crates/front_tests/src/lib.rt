@@ -8,8 +8,12 @@ mod basis;
 #[cfg(test)]
 mod copies;
 #[cfg(test)]
+mod infer_table;
+#[cfg(test)]
 mod lex_table;
 #[cfg(test)]
 mod parse_table;
+#[cfg(test)]
+mod scope_table;
 #[cfg(test)]
 mod type_table;

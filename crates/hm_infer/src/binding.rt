@@ -1,8 +1,7 @@
 // What bindings generalise.
 use crate::context::Context;
-use crate::meaning::{Meaning, Scheme, Status};
 use crate::named::Named;
-use crate::stop::Stop;
+use hm_scheme::{Meaning, Scheme, Status, Stop};
 use sml_syntax::{Listed, NoMemory};
 
 impl Context {

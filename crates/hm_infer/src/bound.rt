@@ -1,9 +1,8 @@
 // Bindings of `val`, and groups of functions.
-use crate::basis::{PRELUDE_LONG, is_among, may_declare};
 use crate::binding::are_distinct;
 use crate::context::Context;
 use crate::named::Named;
-use crate::stop::Stop;
+use hm_scheme::{PRELUDE_LONG, Stop, is_among, may_declare};
 use sml_syntax::{Exp, Listed, Rule, Text};
 
 /// The names of a binding of `val`, its number, the mark before it, and whether what isn't older than the mark is generalised.

@@ -1,11 +1,5 @@
 // The context: names in scope with what they stand for, and the types so far.
-use crate::basis::{APPLIED, CONSTANTS, TYPES, VALUES, has_variables};
-use crate::meaning::{Meaning, Scheme, Status, TypeFunction, TypeMeaning};
-use crate::names::Names;
-use crate::stop::Stop;
-use crate::scope::Scope;
-use crate::ty_name::TyName;
-use crate::types::{Plain, Types};
+use hm_scheme::{APPLIED, CONSTANTS, Meaning, Names, Plain, Scheme, Scope, Status, Stop, TYPES, TyName, TypeFunction, TypeMeaning, Types, VALUES, has_variables};
 use hm_types::{Equality, TypeTable};
 use sml_syntax::{Listed, NoMemory};
 use std::alloc::Global;

@@ -3,7 +3,7 @@ ghost use Rattle.std.specs.Prelude.{length, map, OnOk};
 ghost use Rattle.hm_infer.specs.Numbering.{Numbered, AllNumbered, a_dec};
 
 use crate::inference::Inference;
-use crate::stop::Stop;
+use hm_scheme::Stop;
 use sml_syntax::{Dec, DecForm};
 
 impl Inference {

@@ -1,8 +1,8 @@
 // Which declared types admit equality.
 use crate::context::{Context, flags};
 use crate::type_declaration::{Constructor, DatatypeBinding};
-use crate::stop::Stop;
 use crate::written::place_of;
+use hm_scheme::Stop;
 use sml_syntax::{Text, Ty, TyForm};
 
 impl Context {

@@ -4,7 +4,7 @@ ghost use Rattle.sml_syntax.specs.declared.tree.ExpForm.{out-ExpForm};
 ghost use Rattle.hm_infer.specs.Numbering.{Numbered, AllNumbered, an_exp, a_piece, a_rule, exp_trees};
 
 use crate::inference::Inference;
-use crate::stop::Stop;
+use hm_scheme::Stop;
 use sml_syntax::{Exp, ExpForm, Piece, Rule};
 
 impl Inference {

@@ -3,7 +3,7 @@ ghost use Rattle.std.specs.Prelude.{◌≡◌, length, suc, [], IfOk, OnOk};
 ghost use Rattle.hm_infer.specs.Numbering.{Numbered, a_dec};
 
 use crate::context::Context;
-use crate::stop::Stop;
+use hm_scheme::Stop;
 use sml_syntax::{Dec, DecForm, NoMemory};
 use std::alloc::Global;
 

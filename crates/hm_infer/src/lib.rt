@@ -5,7 +5,6 @@
 //! of types and exceptions (`type_declaration`, `written`, `equality`). It lists a class for each node on its way (`inference`).
 #![tactic(auto)]
 
-mod basis;
 mod binding;
 mod bound;
 mod context;
@@ -13,25 +12,16 @@ mod declaration;
 mod equality;
 mod expression;
 mod inference;
-mod meaning;
 mod named;
-mod names;
 mod pattern;
 mod program;
 mod refusal;
-mod scope;
 mod steady;
-mod stop;
-mod ty_name;
 mod type_declaration;
 mod typed;
-mod types;
-mod unbound;
 mod uses;
-mod width;
 mod written;
 
 pub use program::infer;
 pub use refusal::TypeRefusal;
-pub use ty_name::TyName;
 pub use typed::Typed;

@@ -1,9 +1,7 @@
 // Names that patterns bind.
-use crate::basis::is_long;
 use crate::binding::are_distinct;
 use crate::context::Context;
-use crate::meaning::{Meaning, Scheme, Status};
-use crate::stop::Stop;
+use hm_scheme::{Meaning, Scheme, Status, Stop, is_long};
 use sml_syntax::Text;
 
 /// A name that a pattern binds, and its class.

@@ -6,7 +6,7 @@ ghost use Rattle.hm_infer.specs.Numbering.{Numbered, AllNumbered, a_pat};
 
 use crate::inference::Inference;
 use crate::named::Named;
-use crate::stop::Stop;
+use hm_scheme::Stop;
 use sml_syntax::{Pat, PatForm};
 
 impl Inference {

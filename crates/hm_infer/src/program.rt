@@ -7,10 +7,9 @@ ghost use Rattle.hm_infer.specs.declared.refusal.TypeRefusal.TheVariants.{Unboun
 
 use crate::inference::Inference;
 use crate::refusal::TypeRefusal;
-use crate::stop::Stop;
 use crate::typed::Typed;
-use crate::unbound::first_unbound;
-use crate::width::widest;
+use hm_scheme::{Stop, widest};
+use hm_scope::first_unbound;
 use sml_syntax::{Dec, Listed, NoMemory, Program};
 use std::alloc::Global;
 

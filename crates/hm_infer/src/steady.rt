@@ -1,7 +1,6 @@
 // Expressions that have no effect.
 use crate::context::Context;
-use crate::meaning::Status;
-use crate::stop::Stop;
+use hm_scheme::{Status, Stop};
 use sml_syntax::{Exp, ExpForm, Piece, Text};
 
 impl Context {

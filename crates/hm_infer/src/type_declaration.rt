@@ -1,9 +1,7 @@
 // Declarations of types and exceptions.
-use crate::basis::{is_long, may_construct};
 use crate::binding::are_distinct;
 use crate::context::{Context, flags};
-use crate::meaning::{Meaning, Scheme, Status, TypeFunction, TypeMeaning};
-use crate::stop::Stop;
+use hm_scheme::{Meaning, Scheme, Status, Stop, TypeFunction, TypeMeaning, is_long, may_construct};
 use sml_syntax::{Listed, Text, Ty, TyForm};
 
 pub(crate) type TypeBinding = (Listed<Text>, Text, Ty);

@@ -1,4 +1,4 @@
-use crate::ty_name::TyName;
+use hm_scheme::TyName;
 use hm_types::TypeTable;
 use sml_syntax::{Listed, Program};
 

@@ -1,7 +1,6 @@
 // Uses of names and types, and what forms ask of the classes of their parts.
 use crate::context::Context;
-use crate::meaning::{Meaning, Status};
-use crate::stop::Stop;
+use hm_scheme::{Meaning, Status, Stop};
 use sml_syntax::{Text, Ty};
 
 impl Context {

@@ -1,7 +1,6 @@
 // Written types.
 use crate::context::Context;
-use crate::meaning::TypeMeaning;
-use crate::stop::Stop;
+use hm_scheme::{Stop, TypeMeaning};
 use sml_syntax::{Text, Ty, TyForm};
 
 /// The place of a name in a list.

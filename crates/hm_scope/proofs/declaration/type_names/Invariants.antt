@@ -1,0 +1,6 @@
+use Rattle.std.proofs.Common.{◌≡◌, take}
+use Rattle.sml_syntax.specs.Scope.{type_names}
+use Rattle.hm_scope.proofs.declaration.type_names.Given as goal
+
+abbrev pub invariant-loop-bind : goal.invariant-loop-bind
+invariant-loop-bind l = l.names.items ≡ type_names (take l.bind-index l.binds)
