@@ -30,7 +30,8 @@ pub fn infer(alloc: Global, program: &Program) -> Result<Typed, TypeRefusal>
     ensures types { IfOk result (λ typed. HasNodes program.now (length typed.types)) }
     ensures bound { IfOk result (λ _. AllBound program.now) }
     ensures unbound { (place : ℕ) → result ≡ Err (Unbound place) → IsFirstUnbound program.now place }
-    ensures ill { (place : ℕ) → result ≡ Err (Ill place) → AllBound program.now × IsItemPlace program.now place }
+    ensures ill { (place : ℕ) → result ≡ Err (Ill place) → IsItemPlace program.now place }
+    ensures ill_bound { (place : ℕ) → result ≡ Err (Ill place) → AllBound program.now }
 {
     if let Some(place) = first_unbound(alloc, program)? {
         return Err(TypeRefusal::Unbound(place));
