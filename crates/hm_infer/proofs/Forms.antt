@@ -27,12 +27,6 @@ pat-unit e = ap out-PatForm e ∙ ap out-PatForm (sym w.rolls-Unit) ∙ out-roll
 pub pat-name : {f : PatForm} (x : List ℕ) → f ≡ w.Name x → out-PatForm f ≡ PatForm-F.Name x
 pat-name x e = ap out-PatForm e ∙ ap out-PatForm (sym (w.rolls-Name x)) ∙ out-roll-PatForm (PatForm-F.Name x)
 
-pub pat-tuple : {f : PatForm} (ps : List Pat) → f ≡ w.Tuple ps → out-PatForm f ≡ PatForm-F.Tuple ps
-pat-tuple ps e = ap out-PatForm e ∙ ap out-PatForm (sym (w.rolls-Tuple ps)) ∙ out-roll-PatForm (PatForm-F.Tuple ps)
-
-pub pat-list : {f : PatForm} (ps : List Pat) → f ≡ w.List ps → out-PatForm f ≡ PatForm-F.List ps
-pat-list ps e = ap out-PatForm e ∙ ap out-PatForm (sym (w.rolls-List ps)) ∙ out-roll-PatForm (PatForm-F.List ps)
-
 pub pat-con : {f : PatForm} (name : List ℕ) (p : Pat) → f ≡ w.Con name p → out-PatForm f ≡ PatForm-F.Con name p
 pat-con name p e = ap out-PatForm e ∙ ap out-PatForm (sym (w.rolls-Con name p)) ∙ out-roll-PatForm (PatForm-F.Con name p)
 
@@ -42,23 +36,11 @@ pat-typed p t e = ap out-PatForm e ∙ ap out-PatForm (sym (w.rolls-Typed p t)) 
 pub exp-name : {f : ExpForm} (x : List ℕ) → f ≡ u.Name x → out-ExpForm f ≡ ExpForm-F.Name x
 exp-name x e = ap out-ExpForm e ∙ ap out-ExpForm (sym (u.rolls-Name x)) ∙ out-roll-ExpForm (ExpForm-F.Name x)
 
-pub exp-tuple : {f : ExpForm} (x : List Exp) → f ≡ u.Tuple x → out-ExpForm f ≡ ExpForm-F.Tuple x
-exp-tuple x e = ap out-ExpForm e ∙ ap out-ExpForm (sym (u.rolls-Tuple x)) ∙ out-roll-ExpForm (ExpForm-F.Tuple x)
-
-pub exp-list : {f : ExpForm} (x : List Exp) → f ≡ u.List x → out-ExpForm f ≡ ExpForm-F.List x
-exp-list x e = ap out-ExpForm e ∙ ap out-ExpForm (sym (u.rolls-List x)) ∙ out-roll-ExpForm (ExpForm-F.List x)
-
-pub exp-seq : {f : ExpForm} (x : List Exp) → f ≡ u.Seq x → out-ExpForm f ≡ ExpForm-F.Seq x
-exp-seq x e = ap out-ExpForm e ∙ ap out-ExpForm (sym (u.rolls-Seq x)) ∙ out-roll-ExpForm (ExpForm-F.Seq x)
-
 pub exp-app : {f : ExpForm} (x : Exp) (y : Exp) → f ≡ u.App x y → out-ExpForm f ≡ ExpForm-F.App x y
 exp-app x y e = ap out-ExpForm e ∙ ap out-ExpForm (sym (u.rolls-App x y)) ∙ out-roll-ExpForm (ExpForm-F.App x y)
 
 pub exp-let : {f : ExpForm} (x : List Dec) (y : List Exp) → f ≡ u.Let x y → out-ExpForm f ≡ ExpForm-F.Let x y
 exp-let x y e = ap out-ExpForm e ∙ ap out-ExpForm (sym (u.rolls-Let x y)) ∙ out-roll-ExpForm (ExpForm-F.Let x y)
-
-pub exp-fn : {f : ExpForm} (x : List Rule) → f ≡ u.Fn x → out-ExpForm f ≡ ExpForm-F.Fn x
-exp-fn x e = ap out-ExpForm e ∙ ap out-ExpForm (sym (u.rolls-Fn x)) ∙ out-roll-ExpForm (ExpForm-F.Fn x)
 
 pub exp-case : {f : ExpForm} (x : Exp) (y : List Rule) → f ≡ u.Case x y → out-ExpForm f ≡ ExpForm-F.Case x y
 exp-case x y e = ap out-ExpForm e ∙ ap out-ExpForm (sym (u.rolls-Case x y)) ∙ out-roll-ExpForm (ExpForm-F.Case x y)
@@ -77,9 +59,6 @@ exp-both x y e = ap out-ExpForm e ∙ ap out-ExpForm (sym (u.rolls-Both x y)) �
 
 pub exp-either : {f : ExpForm} (x : Exp) (y : Exp) → f ≡ u.Either x y → out-ExpForm f ≡ ExpForm-F.Either x y
 exp-either x y e = ap out-ExpForm e ∙ ap out-ExpForm (sym (u.rolls-Either x y)) ∙ out-roll-ExpForm (ExpForm-F.Either x y)
-
-pub exp-quote : {f : ExpForm} (x : List Piece) → f ≡ u.Quote x → out-ExpForm f ≡ ExpForm-F.Quote x
-exp-quote x e = ap out-ExpForm e ∙ ap out-ExpForm (sym (u.rolls-Quote x)) ∙ out-roll-ExpForm (ExpForm-F.Quote x)
 
 pub exp-typed : {f : ExpForm} (x : Exp) (y : Ty) → f ≡ u.Typed x y → out-ExpForm f ≡ ExpForm-F.Typed x y
 exp-typed x y e = ap out-ExpForm e ∙ ap out-ExpForm (sym (u.rolls-Typed x y)) ∙ out-roll-ExpForm (ExpForm-F.Typed x y)

@@ -16,7 +16,12 @@ impl Context {
     }
 
     /// Ends a binding, and adds its names to the scope: of their types all variables are generalised that aren't older than the mark.
-    pub(crate) fn generalise(&mut self, number: u32, named: &[Named], mark: u32) -> Result<(), Stop> {
+    pub(crate) fn generalise(
+        &mut self,
+        number: u32,
+        named: &[Named],
+        mark: u32,
+    ) -> Result<(), Stop> {
         let count = self.types.table.count() as usize;
         for _ in self.met.len()..count {
             self.met.push(0)?;
@@ -63,12 +68,20 @@ impl Context {
 
     // A class of the walk: where it is met for the first time and isn't older than the mark, a variable is listed, and parts are to be
     // walked.
-    fn meet(&mut self, mark: u32, class: u32, walk: &mut Vec<u32>, variables: &mut Vec<u32>) -> Result<(), Stop> {
+    fn meet(
+        &mut self,
+        mark: u32,
+        class: u32,
+        walk: &mut Vec<u32>,
+        variables: &mut Vec<u32>,
+    ) -> Result<(), Stop> {
         if class >= self.types.table.count() {
             return Err(Stop::Ill);
         }
         let root = self.types.table.find(class);
-        if self.types.table.asked(root).birth < mark || !is_first_time(&mut self.met, self.walks, root) {
+        if self.types.table.asked(root).birth < mark
+            || !is_first_time(&mut self.met, self.walks, root)
+        {
             return Ok(());
         }
         match self.types.table.name(root) {

@@ -36,7 +36,13 @@ impl Context {
     }
 
     /// Ends a binding of `val`, whose pattern and expression have these classes.
-    pub(crate) fn end_bound(&mut self, bound: &mut Bound, pattern: u32, class: u32, e: &Exp) -> Result<(), Stop> {
+    pub(crate) fn end_bound(
+        &mut self,
+        bound: &mut Bound,
+        pattern: u32,
+        class: u32,
+        e: &Exp,
+    ) -> Result<(), Stop> {
         self.types.unify(pattern, class)?;
         bound.steady = self.is_steady(e)?;
         Ok(())
@@ -122,7 +128,12 @@ impl Context {
     }
 
     /// Enters the scope of a rule from one class, whose pattern has this class and binds these names, and answers the depth outside.
-    pub(crate) fn enter_rule(&mut self, from: u32, pattern: u32, named: &[Named]) -> Result<usize, Stop> {
+    pub(crate) fn enter_rule(
+        &mut self,
+        from: u32,
+        pattern: u32,
+        named: &[Named],
+    ) -> Result<usize, Stop> {
         self.types.unify(from, pattern)?;
         self.are_distinct(named)?;
         let outer = self.values.depth();

@@ -1,5 +1,8 @@
 // The context: names in scope with what they stand for, and the types so far.
-use hm_scheme::{APPLIED, CONSTANTS, Meaning, Names, Plain, Scheme, Scope, Status, Stop, TYPES, TyName, TypeFunction, TypeMeaning, Types, VALUES, has_variables};
+use hm_scheme::{
+    APPLIED, CONSTANTS, Meaning, Names, Plain, Scheme, Scope, Status, Stop, TYPES, TyName,
+    TypeFunction, TypeMeaning, Types, VALUES, has_variables,
+};
 use hm_types::{Equality, TypeTable};
 use sml_syntax::{Listed, NoMemory};
 use std::alloc::Global;
@@ -65,7 +68,11 @@ impl Context {
         Ok(())
     }
 
-    fn add_basis(&mut self, rows: &[(&'static str, &'static str)], status: Status) -> Result<(), Stop> {
+    fn add_basis(
+        &mut self,
+        rows: &[(&'static str, &'static str)],
+        status: Status,
+    ) -> Result<(), Stop> {
         for row in rows {
             let name = self.name(row.0.as_bytes())?;
             let scheme = if has_variables(row.1.as_bytes()) {

@@ -29,14 +29,28 @@ impl Context {
             TyForm::Con(name, arguments) => {
                 match self.asks(name, arguments.as_slice().len(), own, chosen)? {
                     Some(asks) => {
-                        self.admit(arguments.as_slice(), asks.as_slice(), variables, asked, own, chosen)
+                        self.admit(
+                            arguments.as_slice(),
+                            asks.as_slice(),
+                            variables,
+                            asked,
+                            own,
+                            chosen,
+                        )
                     }
                     None => Ok(false),
                 }
             }
             TyForm::Tuple(ts) => {
                 let asks = flags(self.alloc, ts.as_slice().len(), true)?;
-                self.admit(ts.as_slice(), asks.as_slice(), variables, asked, own, chosen)
+                self.admit(
+                    ts.as_slice(),
+                    asks.as_slice(),
+                    variables,
+                    asked,
+                    own,
+                    chosen,
+                )
             }
             TyForm::Arrow(_, _) => Ok(false),
         }
@@ -72,7 +86,10 @@ impl Context {
         own: &[DatatypeBinding],
         chosen: &[bool],
     ) -> Result<Option<Vec<bool>>, Stop> {
-        if let Some(place) = own.iter().position(|bind| bind.1.as_bytes() == name.as_bytes()) {
+        if let Some(place) = own
+            .iter()
+            .position(|bind| bind.1.as_bytes() == name.as_bytes())
+        {
             if chosen.get(place).copied().unwrap_or(false) {
                 return Ok(Some(flags(self.alloc, count, true)?));
             }
@@ -95,7 +112,9 @@ impl Context {
         for _ in 0..own.len() {
             let mut same = true;
             for i in 0..own.len() {
-                if chosen.get(i).copied().unwrap_or(false) && !self.all_admit(own[i].2.as_slice(), own, chosen.as_slice())? {
+                if chosen.get(i).copied().unwrap_or(false)
+                    && !self.all_admit(own[i].2.as_slice(), own, chosen.as_slice())?
+                {
                     if let Some(flag) = chosen.get_mut(i) {
                         *flag = false;
                     }
@@ -110,7 +129,12 @@ impl Context {
     }
 
     // Whether the arguments of all constructors admit equality.
-    fn all_admit(&mut self, constructors: &[Constructor], own: &[DatatypeBinding], chosen: &[bool]) -> Result<bool, Stop> {
+    fn all_admit(
+        &mut self,
+        constructors: &[Constructor],
+        own: &[DatatypeBinding],
+        chosen: &[bool],
+    ) -> Result<bool, Stop> {
         let mut asked = Vec::new(self.alloc);
         for constructor in constructors {
             if let Some(t) = &constructor.1 {

@@ -16,14 +16,18 @@ impl Context {
     pub(crate) fn named_pat(&mut self, text: &Text, named: &mut Vec<Named>) -> Result<u32, Stop> {
         let name = self.name(text.as_bytes())?;
         match self.meaning(name) {
-            Some(Meaning {
-                status: Status::Constant,
-                scheme,
-            }) => self.instance(scheme),
-            Some(Meaning {
-                status: Status::Applied,
-                scheme: _,
-            }) => Err(Stop::Ill),
+            Some(
+                Meaning {
+                    status: Status::Constant,
+                    scheme,
+                },
+            ) => self.instance(scheme),
+            Some(
+                Meaning {
+                    status: Status::Applied,
+                    scheme: _,
+                },
+            ) => Err(Stop::Ill),
             _ => {
                 if is_long(text.as_bytes()) || text.as_bytes() == b"=".as_slice() {
                     return Err(Stop::Ill);

@@ -5,7 +5,9 @@ use hm_scheme::{Meaning, Scheme, Status, Stop, TypeFunction, TypeMeaning, is_lon
 use sml_syntax::{Listed, Text, Ty, TyForm};
 
 pub(crate) type TypeBinding = (Listed<Text>, Text, Ty);
+
 pub(crate) type Constructor = (Text, Option<Ty>);
+
 pub(crate) type DatatypeBinding = (Listed<Text>, Text, Listed<Constructor>);
 
 // Whether arguments are just these variables.
@@ -33,7 +35,9 @@ fn is_uniform(t: &Ty, own: &[DatatypeBinding]) -> bool {
         TyForm::Var(_) => true,
         TyForm::Con(name, arguments) => {
             for bind in own {
-                if bind.1.as_bytes() == name.as_bytes() && !are_variables(bind.0.as_slice(), arguments.as_slice()) {
+                if bind.1.as_bytes() == name.as_bytes()
+                    && !are_variables(bind.0.as_slice(), arguments.as_slice())
+                {
                     return false;
                 }
             }
@@ -148,7 +152,14 @@ impl Context {
                 None
             };
             let meaning = TypeMeaning::Name(number);
-            self.add_type(binds[i].1.as_bytes(), TypeFunction { arity, equality, meaning })?;
+            self.add_type(
+                binds[i].1.as_bytes(),
+                TypeFunction {
+                    arity,
+                    equality,
+                    meaning,
+                },
+            )?;
         }
         let mark = self.types.mark();
         for i in 0..binds.len() {
@@ -156,7 +167,13 @@ impl Context {
             let names = binds[i].0.as_slice();
             let classes = self.parameters(names, true)?;
             let result = self.types.con(number, classes.as_slice())?;
-            self.constructors(binds[i].2.as_slice(), names, classes.as_slice(), result, mark)?;
+            self.constructors(
+                binds[i].2.as_slice(),
+                names,
+                classes.as_slice(),
+                result,
+                mark,
+            )?;
         }
         Ok(())
     }

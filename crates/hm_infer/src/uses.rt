@@ -17,10 +17,12 @@ impl Context {
     pub(crate) fn constructed(&mut self, name: &Text, argument: u32) -> Result<u32, Stop> {
         let name = self.name(name.as_bytes())?;
         match self.meaning(name) {
-            Some(Meaning {
-                status: Status::Applied,
-                scheme,
-            }) => {
+            Some(
+                Meaning {
+                    status: Status::Applied,
+                    scheme,
+                },
+            ) => {
                 let class = self.instance(scheme)?;
                 let from = self.types.part(class, 0)?;
                 self.types.unify(from, argument)?;

@@ -26,12 +26,12 @@ exp_form-returns-in-Name t c = on_ok-of _ (numbered-as _ _ (ap exp_trees (exp-na
 pub exp_form-returns-in_ok-argument-in-App : goal.exp_form-returns-in_ok-argument-in-App
 exp_form-returns-in_ok-argument-in-App t c = on_ok-of _ (numbered-as _ _ (ap exp_trees (exp-app _ _ c.in-App.is))
     (numbered-two (subst (λ x. Numbered (an_exp x) (length c.args.self.now.nodes.items) (length c.exp.new.self.nodes.items)) c.get.ensures c.in_ok-f-in-App.ensures)
-      (subst (λ x. Numbered (an_exp x) (length c.exp.new.self.nodes.items) (length c.exp-in-App.new.self.nodes.items)) c.get-in-App.ensures c.in_ok-argument-in-App.ensures)))
+    (subst (λ x. Numbered (an_exp x) (length c.exp.new.self.nodes.items) (length c.exp-in-App.new.self.nodes.items)) c.get-in-App.ensures c.in_ok-argument-in-App.ensures)))
 
 pub exp_form-returns-in_ok-class-in-Let : goal.exp_form-returns-in_ok-class-in-Let
 exp_form-returns-in_ok-class-in-Let t c = numbered-as _ _ (ap exp_trees (exp-let _ _ c.in-Let.is))
     (numbered-append _ _ _ _ _ (subst (λ x. AllNumbered (map a_dec x) (length c.args.self.now.nodes.items) (length c.decs.new.self.nodes.items)) c.as_slice-in-Let.ensures c.in_ok-decs-in-Let.ensures)
-      (subst (λ x. AllNumbered (map an_exp x) (length c.decs.new.self.nodes.items) (length c.sequence-in-Let.new.self.nodes.items)) c.as_slice-in-Let-2.ensures c.in_ok-class-in-Let.ensures))
+    (subst (λ x. AllNumbered (map an_exp x) (length c.decs.new.self.nodes.items) (length c.sequence-in-Let.new.self.nodes.items)) c.as_slice-in-Let-2.ensures c.in_ok-class-in-Let.ensures))
 
 pub exp_form-returns-in_ok-class-in-Typed : goal.exp_form-returns-in_ok-class-in-Typed
 exp_form-returns-in_ok-class-in-Typed t c = on_ok-of _ (numbered-as _ _ (ap exp_trees (exp-typed _ _ c.in-Typed.is))
@@ -44,28 +44,28 @@ exp_form-returns-in_ok-exp_of-in-Raise t c = on_ok-of _ (numbered-as _ _ (ap exp
 pub exp_form-returns-in_ok-rules-in-Case : goal.exp_form-returns-in_ok-rules-in-Case
 exp_form-returns-in_ok-rules-in-Case t c = numbered-as _ _ (ap exp_trees (exp-case _ _ c.in-Case.is))
     (numbered_more (subst (λ x. Numbered (an_exp x) (length c.args.self.now.nodes.items) (length c.exp-in-Case.new.self.nodes.items)) c.get-in-Case.ensures c.in_ok-from-in-Case.ensures)
-      (subst (λ x. AllNumbered (map a_rule x) (length c.exp-in-Case.new.self.nodes.items) (length c.rules-in-Case.new.self.nodes.items)) c.as_slice-in-Case.ensures c.in_ok-rules-in-Case.ensures))
+    (subst (λ x. AllNumbered (map a_rule x) (length c.exp-in-Case.new.self.nodes.items) (length c.rules-in-Case.new.self.nodes.items)) c.as_slice-in-Case.ensures c.in_ok-rules-in-Case.ensures))
 
 pub exp_form-returns-in_ok-rules-in-Handle : goal.exp_form-returns-in_ok-rules-in-Handle
 exp_form-returns-in_ok-rules-in-Handle t c = numbered-as _ _ (ap exp_trees (exp-handle _ _ c.in-Handle.is))
     (numbered_more (subst (λ x. Numbered (an_exp x) (length c.args.self.now.nodes.items) (length c.exp-in-Handle.new.self.nodes.items)) c.get-in-Handle.ensures c.in_ok-class-in-Handle.ensures)
-      (subst (λ x. AllNumbered (map a_rule x) (length c.exp-in-Handle.new.self.nodes.items) (length c.rules-in-Handle.new.self.nodes.items)) c.as_slice-in-Handle.ensures c.in_ok-rules-in-Handle.ensures))
+    (subst (λ x. AllNumbered (map a_rule x) (length c.exp-in-Handle.new.self.nodes.items) (length c.rules-in-Handle.new.self.nodes.items)) c.as_slice-in-Handle.ensures c.in_ok-rules-in-Handle.ensures))
 
 pub exp_form-returns-in_ok-exp_of-in-If-2 : goal.exp_form-returns-in_ok-exp_of-in-If-2
 exp_form-returns-in_ok-exp_of-in-If-2 t c = numbered-as _ _ (ap exp_trees (exp-if _ _ _ c.in-If.is))
     (numbered-three (subst (λ x. Numbered (an_exp x) (length c.args.self.now.nodes.items) (length c.exp_of-in-If.new.self.nodes.items)) c.get-in-If.ensures c.in_ok-exp_of-in-If.ensures)
-      (subst (λ x. Numbered (an_exp x) (length c.exp_of-in-If.new.self.nodes.items) (length c.exp-in-If.new.self.nodes.items)) c.get-in-If-2.ensures c.in_ok-class-in-If.ensures)
-      (subst (λ x. Numbered (an_exp x) (length c.exp-in-If.new.self.nodes.items) (length c.exp_of-in-If-2.new.self.nodes.items)) c.get-in-If-3.ensures c.in_ok-exp_of-in-If-2.ensures))
+    (subst (λ x. Numbered (an_exp x) (length c.exp_of-in-If.new.self.nodes.items) (length c.exp-in-If.new.self.nodes.items)) c.get-in-If-2.ensures c.in_ok-class-in-If.ensures)
+    (subst (λ x. Numbered (an_exp x) (length c.exp-in-If.new.self.nodes.items) (length c.exp_of-in-If-2.new.self.nodes.items)) c.get-in-If-3.ensures c.in_ok-exp_of-in-If-2.ensures))
 
 pub exp_form-returns-in_ok-exp_of-in-Both-2 : goal.exp_form-returns-in_ok-exp_of-in-Both-2
 exp_form-returns-in_ok-exp_of-in-Both-2 t c = numbered-as _ _ (ap exp_trees (exp-both _ _ c.in-Both.is))
     (numbered-two (subst (λ x. Numbered (an_exp x) (length c.args.self.now.nodes.items) (length c.exp_of-in-Both.new.self.nodes.items)) c.get-in-Both.ensures c.in_ok-exp_of-in-Both.ensures)
-      (subst (λ x. Numbered (an_exp x) (length c.exp_of-in-Both.new.self.nodes.items) (length c.exp_of-in-Both-2.new.self.nodes.items)) c.get-in-Both-2.ensures c.in_ok-exp_of-in-Both-2.ensures))
+    (subst (λ x. Numbered (an_exp x) (length c.exp_of-in-Both.new.self.nodes.items) (length c.exp_of-in-Both-2.new.self.nodes.items)) c.get-in-Both-2.ensures c.in_ok-exp_of-in-Both-2.ensures))
 
 pub exp_form-returns-in_ok-exp_of-in-Either-2 : goal.exp_form-returns-in_ok-exp_of-in-Either-2
 exp_form-returns-in_ok-exp_of-in-Either-2 t c = numbered-as _ _ (ap exp_trees (exp-either _ _ c.in-Either.is))
     (numbered-two (subst (λ x. Numbered (an_exp x) (length c.args.self.now.nodes.items) (length c.exp_of-in-Either.new.self.nodes.items)) c.get-in-Either.ensures c.in_ok-exp_of-in-Either.ensures)
-      (subst (λ x. Numbered (an_exp x) (length c.exp_of-in-Either.new.self.nodes.items) (length c.exp_of-in-Either-2.new.self.nodes.items)) c.get-in-Either-2.ensures c.in_ok-exp_of-in-Either-2.ensures))
+    (subst (λ x. Numbered (an_exp x) (length c.exp_of-in-Either.new.self.nodes.items) (length c.exp_of-in-Either-2.new.self.nodes.items)) c.get-in-Either-2.ensures c.in_ok-exp_of-in-Either-2.ensures))
 
 pub exps-loop-e-init : goal.exps-loop-e-init
 exps-loop-e-init t c = numbered_end
@@ -131,4 +131,4 @@ dec-returns-after-loop-i t c = on_ok-of _ (numbered-tree (a_dec c.args.d.now) _ 
 pub dec-returns-in_ok-hide-in-Local : goal.dec-returns-in_ok-hide-in-Local
 dec-returns-in_ok-hide-in-Local t c = numbered-tree (a_dec c.args.d.now) _ _ _ _ refl (numbered-as _ _ (ap dec_trees (dec-local _ _ c.in-Local.is))
     (numbered-append _ _ _ _ _ (subst (λ x. AllNumbered (map a_dec x) (length c.args.self.now.nodes.items) (length c.decs.new.self.nodes.items)) c.as_slice-in-Local.ensures c.in_ok-decs-in-Local.ensures)
-      (subst (λ x. AllNumbered (map a_dec x) (length c.decs.new.self.nodes.items) (length c.decs-in-Local.new.self.nodes.items)) c.as_slice-in-Local-2.ensures c.in_ok-decs-in-Local-2.ensures))) refl
+    (subst (λ x. AllNumbered (map a_dec x) (length c.decs.new.self.nodes.items) (length c.decs-in-Local.new.self.nodes.items)) c.as_slice-in-Local-2.ensures c.in_ok-decs-in-Local-2.ensures))) refl
