@@ -1,9 +1,8 @@
 // Tables of types: unifiers, clashes, equality, births of names, copies; names and what they stand for.
 use hm_scheme::{
-    APPLIED, CONSTANTS, Names, Scope, Stop, TYPES, Types, VALUES, has_variables, is_long,
-    may_construct, may_declare, tables_spell_the_basis, widest,
+    APPLIED, CONSTANTS, FIXED, Names, PRELUDE_LONG, Scope, Stop, TYPES, Types, VALUES,
+    has_variables, is_among, is_long, may_construct, may_declare, tables_spell_the_basis, widest,
 };
-use hm_types::Equality;
 use sml_lex::lex;
 use sml_parse::parse;
 use std::alloc::Global;
@@ -170,25 +169,34 @@ fn what_is_no_class_or_name_is_refused(rt: HostRuntime) -> Result<(), Fail> {
     Ok(())
 }
 
+// Whether each row of a table spells a type.
+fn spell_types(types: &mut Types, rows: &[(&str, &str)]) -> bool {
+    for row in rows {
+        if types.spelt(row.1.as_bytes()).is_err() {
+            return false;
+        }
+    }
+    true
+}
+
 #[test]
 fn the_basis_is_spelt(rt: HostRuntime) -> Result<(), Fail> {
     tables_spell_the_basis();
     let mut types = start(rt.alloc())?;
-    for (name, steps) in VALUES {
-        assert!(rt; types.spelt(steps.as_bytes()).is_ok(), "{name}");
-    }
-    for (name, steps) in CONSTANTS {
-        assert!(rt; types.spelt(steps.as_bytes()).is_ok(), "{name}");
-    }
-    for (name, steps) in APPLIED {
-        assert!(rt; types.spelt(steps.as_bytes()).is_ok(), "{name}");
-    }
-    assert!(rt; TYPES[10].2 == Equality::Always && has_variables(b"iA>".as_slice()) && !has_variables(b"ii>".as_slice()));
+    assert!(rt; spell_types(&mut types, &VALUES));
+    assert!(rt; spell_types(&mut types, &CONSTANTS) && spell_types(&mut types, &APPLIED));
+    assert!(rt; TYPES.len() == 14 && PRELUDE_LONG.len() == 6 && FIXED.len() == 6);
+    assert!(rt; has_variables(b"iA>".as_slice()) && !has_variables(b"ii>".as_slice()));
+    Ok(())
+}
+
+#[test]
+fn some_names_are_not_to_be_bound(rt: HostRuntime) -> Result<(), Fail> {
     for (name, declared, constructed) in NAMES {
         assert!(rt; may_declare(name.as_bytes()) == declared, "{name}");
         assert!(rt; may_construct(name.as_bytes()) == constructed, "{name}");
     }
-    assert!(rt; is_long(b"A.b".as_slice()));
+    assert!(rt; is_long(b"A.b".as_slice()) && is_among(b"=".as_slice(), &FIXED));
     Ok(())
 }
 

@@ -1,7 +1,6 @@
 -- Bindings with places: what is true of them after one more, and after one less.
-use Rattle.std.proofs.Common.{◌≡◌, ◌≢◌, ℕ, zero, suc, ◌+◌, ◌-◌, ◌<◌, ◌≤◌, ◌⊎◌, inl, inr, Bool, true, false, cond, ◌==◌, List, [], ◌∷◌, ◌++◌, length, take, drop, map, set, get_or, Option, Some, None, IfSome, refl, ap, sym, ◌∙◌, subst, arith, min, append_assoc, get_or-set_same, get_or-set_other, take_at, below_more}
+use Rattle.std.proofs.Common.{◌≡◌, ◌≢◌, ℕ, zero, suc, ◌+◌, ◌-◌, ◌<◌, ◌≤◌, ◌⊎◌, inl, inr, Bool, true, false, cond, ◌==◌, List, [], ◌∷◌, ◌++◌, length, take, drop, set, get_or, Option, Some, None, IfSome, refl, ap, sym, ◌∙◌, subst, arith, min, append_assoc, get_or-set_same, get_or-set_other, take_at, below_more}
 use Rattle.std.proofs.lemmas.Bool.{eqb-true, eq-eqb, cases_eq, cases_lt}
-use Rattle.std.proofs.lemmas.Bool.Decides.{Decides-eqb}
 use Rattle.std.proofs.lemmas.List.{get_or_push, get_or_past, length_push, get_or_append_left, take-append-le, take_more, map_push, take_rest, drop_min, drop-map}
 use Rattle.hm_scheme.specs.declared.scope.Bound.{Bound}
 use Rattle.hm_scheme.specs.Bindings.{Binding, meaning_in, first_of_two, shown, place_after, last_place, bound_at, IsIndexed}

@@ -1,6 +1,6 @@
 -- Bindings of names, the innermost last, and what a name stands for among them. Of this project; the environments of the
 -- Definition of Standard ML, section 4.2, one binding at a time.
-use Rattle.std.specs.Prelude.{◌≡◌, ℕ, suc, ◌<◌, ◌≤◌, ◌^◌, ◌==◌, Bool, true, false, List, [], ◌∷◌, length, map, take, get_or, Option, Some, None, if◌then◌else◌}
+use Rattle.std.specs.Prelude.{◌≡◌, ℕ, suc, ◌<◌, ◌==◌, Bool, true, false, List, [], ◌∷◌, length, map, take, get_or, Option, Some, None, if◌then◌else◌}
 use Rattle.hm_scheme.specs.declared.scope.Bound.{Bound}
 
 -- a name and what it stands for, both by numbers

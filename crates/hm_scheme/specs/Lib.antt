@@ -3,3 +3,4 @@ pub mod Numbering
 pub mod Bindings
 pub mod Spellings
 pub mod Making
+pub mod TypeNames

@@ -1,5 +1,5 @@
 -- What the calls of the table of types do. Of this project.
-use Rattle.std.specs.Prelude.{◌≡◌, ◌⊎◌, ℕ, ◌<◌, ◌≤◌, List, length}
+use Rattle.std.specs.Prelude.{◌≡◌, ℕ, ◌<◌, List, length}
 use Rattle.hm_types.specs.Classes.{TypeGraph, name_at, terms_of}
 use Rattle.hm_types.specs.Joining.{Within}
 use Rattle.hm_types.specs.Solving.{Joins, OneMore}

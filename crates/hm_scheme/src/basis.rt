@@ -1,7 +1,8 @@
 // The basis. Types are spelt by steps, each a letter that takes types from those before it: `i` int, `c` char, `s` string, `x` exn, `u` unit,
 // `b` bool, `o` order, `k` kind, `l` list, `p` option, `f` frag, `r` ref, `t` ty, `h` cache, `A` to `C` variables, `E` one
 // of types with equality, a digit a tuple, `>` a function.
-ghost use Rattle.std.specs.Prelude.{◌≡◌, map};
+ghost use Rattle.std.specs.Prelude.{◌≡◌, map, nat_eq, bytes_eq};
+ghost use Rattle.std.specs.List.{list_any};
 ghost use Rattle.sml_syntax.specs.BasisTable.{basis_types};
 ghost use Rattle.hm_scheme.specs.Spellings.{type_row, value_rows, constant_rows, applied_rows};
 
@@ -128,12 +129,16 @@ pub fn tables_spell_the_basis()
 {}
 
 /// Whether a name is one of these.
-pub fn is_among(name: &[u8], names: &[&str]) -> bool {
+pub fn is_among(name: &[u8], names: &[&str]) -> bool
+    ensures { result ≡ list_any (λ other. bytes_eq other.now name.now) names.now }
+{
     names.iter().any(|other| other.as_bytes() == name)
 }
 
 /// Whether a name has several parts.
-pub fn is_long(name: &[u8]) -> bool {
+pub fn is_long(name: &[u8]) -> bool
+    ensures { result ≡ list_any (λ byte. nat_eq byte 46) name.now }
+{
     name.contains(&b'.')
 }
 

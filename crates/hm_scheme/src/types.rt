@@ -1,10 +1,14 @@
 // The table of types, with the type names of the language.
-ghost use Rattle.std.specs.Prelude.{◌≡◌, ◌⊎◌, ◌∷◌, [], ◌++◌, ◌+◌, ◌<◌, ◌≤◌, ◌↔◌, ℕ, length, true, false, IfOk, OnOk, OnErr, Err, Ok, Some, None};
+ghost use Rattle.std.specs.Prelude.{◌≡◌, ◌∷◌, [], ◌++◌, ◌+◌, ◌-◌, ◌<◌, ◌≤◌, ◌↔◌, ℕ, length, map, max, true, IfOk, OnOk, OnErr, Err, Some, None, if◌then◌else◌};
+ghost use Rattle.std.specs.List.{range_with_len};
 ghost use Rattle.hm_types.specs.Classes.{Allows, at, part_in, Stands};
 ghost use Rattle.hm_types.specs.Joining.{Within};
 ghost use Rattle.hm_types.specs.Solving.{Joins, MostGeneral, HasNoUnifier, SameClasses, OneMore, IsDeclared, Grows};
 ghost use Rattle.hm_types.specs.declared.node.Node.TheVariants.{Variable};
+ghost use Rattle.hm_types.specs.declared.node.Equality.TheVariants.{Never, Parts};
+ghost use Rattle.hm_scheme.specs.declared.type_name.TyName.TheVariants.{Basis, Tuple, Declared};
 ghost use Rattle.hm_scheme.specs.Making.{IsApplied, IsMade};
+ghost use Rattle.hm_scheme.specs.TypeNames.{Tells, AllTell, start_names};
 ghost use Rattle.hm_scheme.specs.declared.refusal.Stop.TheVariants as stop;
 
 use crate::basis::TYPES;
@@ -48,11 +52,14 @@ pub struct Types {
     pub names: Vec<TyName>,
     /// How many datatypes were declared.
     pub declared: u32,
+    ghost told: { AllTell names.items table.names },
 }
 
 impl Types {
     /// A table with the names of the basis, and tuples of up to so many parts, but at least four.
-    pub fn start(alloc: Global, widest: u32) -> Result<Types, Stop> {
+    pub fn start(alloc: Global, widest: u32) -> Result<Types, Stop>
+        ensures { IfOk result (λ types. types.names.items ≡ start_names (max widest 4)) }
+    {
         let mut types = Types {
             alloc,
             plain: NO_PLAIN,
@@ -61,30 +68,37 @@ impl Types {
             declared: 0,
         };
         types.declare_basis()?;
+        types.declare(2, Equality::Never, TyName::Arrow)?;
         types.declare_tuples(widest.max(4))?;
         types.make_plain()?;
         Ok(types)
     }
 
     // Declares the types of the basis.
-    fn declare_basis(&mut self) -> Result<(), NoMemory> {
-        for i in 0..TYPES.len() {
-            self.declare(TYPES[i].1, TYPES[i].2, TyName::Basis(i as u32))?;
+    fn declare_basis(&mut self) -> Result<(), NoMemory>
+        ensures { OnOk result (self.new.names.items ≡ self.old.names.items ++ map Basis (range_with_len 0 14)) }
+    {
+        for i in 0..ARROW {
+            let row = &TYPES[i as usize];
+            self.declare(row.1, row.2, TyName::Basis(i))?;
         }
         Ok(())
     }
 
-    // Declares functions, and tuples of up to so many parts.
-    fn declare_tuples(&mut self, widest: u32) -> Result<(), NoMemory> {
-        self.declare(2, Equality::Never, TyName::Arrow)?;
-        for parts in 2..widest.saturating_add(1) {
-            self.declare(parts, Equality::Parts, TyName::Tuple(parts))?;
+    // Declares tuples of two parts and up to so many.
+    fn declare_tuples(&mut self, widest: u32) -> Result<(), NoMemory>
+        ensures { OnOk result (self.new.names.items ≡ self.old.names.items ++ map Tuple (range_with_len 2 (widest - 1))) }
+    {
+        for parts in 1..widest {
+            self.declare(parts + 1, Equality::Parts, TyName::Tuple(parts + 1))?;
         }
         Ok(())
     }
 
     // Makes the classes of types without arguments.
-    fn make_plain(&mut self) -> Result<(), Stop> {
+    fn make_plain(&mut self) -> Result<(), Stop>
+        ensures { self.new.names ≡ self.old.names }
+    {
         self.plain = Plain {
             int: self.con(0, &[])?,
             char: self.con(1, &[])?,
@@ -98,6 +112,7 @@ impl Types {
 
     // A new name of the table.
     fn declare(&mut self, arity: u32, equality: Equality, name: TyName) -> Result<u32, NoMemory>
+        requires { (birth : ℕ) → Tells name (record { arity = arity; equality = equality; birth = birth }) }
         ensures number { IfOk result (λ f. (f ≡ length self.old.table.names) × IsDeclared self.old.table self.new.table arity equality) }
         ensures names { OnOk result (self.new.names.items ≡ self.old.names.items ++ name ∷ []) }
         ensures kept { OnErr result ((self.new.table ≡ self.old.table) × (self.new.names.items ≡ self.old.names.items)) }
@@ -110,7 +125,10 @@ impl Types {
     }
 
     /// A new datatype: its name's number. Its types admit equality where `equal` is true and their arguments do.
-    pub fn declare_datatype(&mut self, arity: u32, equal: bool) -> Result<u32, NoMemory> {
+    pub fn declare_datatype(&mut self, arity: u32, equal: bool) -> Result<u32, NoMemory>
+        ensures number { IfOk result (λ f. (f ≡ length self.old.table.names) × IsDeclared self.old.table self.new.table arity (if equal then Parts else Never)) }
+        ensures names { OnOk result (self.new.names.items ≡ self.old.names.items ++ Declared self.old.declared ∷ []) }
+    {
         let equality = if equal {
             Equality::Parts
         } else {
@@ -123,7 +141,8 @@ impl Types {
 
     /// The table, and what its names stand for.
     pub fn finish(self) -> (TypeTable, Vec<TyName>)
-        ensures { (result.0 ≡ self.table) × (result.1 ≡ self.names) }
+        ensures parts { (result.0 ≡ self.table) × (result.1 ≡ self.names) }
+        ensures told { AllTell result.1.items result.0.names }
     {
         let Types {
             alloc: _,
@@ -147,6 +166,7 @@ impl Types {
         ensures class { IfOk result (λ c. (c ≡ length self.old.table.nodes) × OneMore self.old.table self.new.table × (at self.new.table.nodes c ≡ Variable)) }
         ensures joins { IfOk result (λ c. Joins self.old.table self.new.table (λ s. Allows self.old.table.names (record { equality = equality; birth = c }) (s c))) }
         ensures ill { result ≡ Err stop.Ill → ⊥ }
+        ensures names { self.new.names ≡ self.old.names }
     {
         Ok(self.table.var(equality)?)
     }
@@ -157,6 +177,7 @@ impl Types {
         ensures made { IfOk result (IsMade self.old.table self.new.table name parts.now) }
         ensures ill { result ≡ Err stop.Ill → IsApplied self.old.table name parts.now → ⊥ }
         ensures kept { OnErr result (self.new.table ≡ self.old.table) }
+        ensures names { self.new.names ≡ self.old.names }
     {
         if !self.fits(name, parts) {
             return Err(Stop::Ill);
@@ -213,6 +234,7 @@ impl Types {
         ensures most { OnOk result (MostGeneral self.old.table self.new.table a b) }
         ensures none { result ≡ Err stop.Ill → a < length self.old.table.nodes → b < length self.old.table.nodes → HasNoUnifier self.old.table a b }
         ensures same { SameClasses self.old.table self.new.table }
+        ensures names { self.new.names ≡ self.old.names }
     {
         let count = self.table.count();
         if a >= count || b >= count {
@@ -230,6 +252,7 @@ impl Types {
         ensures within { IfOk result (λ d. d < length self.new.table.nodes) }
         ensures grows { Grows self.old.table self.new.table }
         ensures ill { result ≡ Err stop.Ill → class < length self.old.table.nodes → mark ≤ length self.old.table.nodes → ⊥ }
+        ensures names { self.new.names ≡ self.old.names }
     {
         let count = self.table.count();
         if class >= count || mark > count {

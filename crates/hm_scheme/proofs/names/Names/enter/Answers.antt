@@ -1,4 +1,4 @@
-use Rattle.std.proofs.Common.{◌∙◌, sym, ap, subst}
+use Rattle.std.proofs.Common.{◌∙◌, ap, subst}
 use Rattle.hm_scheme.specs.Numbering.{number_in, HasNumbersOf, shown_numbers}
 use Rattle.hm_scheme.proofs.Numbering.{HasNext, next}
 use Rattle.hm_scheme.proofs.names.Names.enter.Goals as goal

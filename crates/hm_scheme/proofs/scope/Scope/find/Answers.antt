@@ -1,4 +1,4 @@
-use Rattle.std.proofs.Common.{◌≡◌, ◌∙◌, ◌<◌, sym, ap, arith, get_or, None, Some, length}
+use Rattle.std.proofs.Common.{◌∙◌, sym, ap, arith, get_or, None, Some}
 use Rattle.std.proofs.lemmas.List.{get_or_default}
 use Rattle.hm_scheme.specs.Bindings.{meaning_in}
 use Rattle.hm_scheme.proofs.Scoping.{found, not_found}

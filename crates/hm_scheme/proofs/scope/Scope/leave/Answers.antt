@@ -1,4 +1,4 @@
-use Rattle.std.proofs.Common.{◌<◌, arith, subst, length}
+use Rattle.std.proofs.Common.{arith, subst}
 use Rattle.hm_scheme.specs.Bindings.{IsIndexed}
 use Rattle.hm_scheme.proofs.Scoping.{indexed-room, indexed-pop}
 use Rattle.hm_scheme.proofs.scope.Scope.leave.Goals as goal

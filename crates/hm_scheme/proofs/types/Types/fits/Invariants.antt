@@ -1,4 +1,4 @@
-use Rattle.std.proofs.Common.{take, length}
+use Rattle.std.proofs.Common.{take}
 use Rattle.hm_types.specs.Joining.{Within}
 use Rattle.hm_scheme.proofs.types.Types.fits.Given as goal
 

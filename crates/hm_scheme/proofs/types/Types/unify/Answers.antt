@@ -1,4 +1,8 @@
+use Rattle.hm_scheme.proofs.Naming.{tell-same}
 use Rattle.hm_scheme.proofs.types.Types.unify.Goals as goal
+
+pub invariant_of-self : goal.invariant_of-self
+invariant_of-self c = record { told = tell-same _ _ _ c.unify.ensures.same.names c.args.self.now.told }
 
 pub returns-in-Err-Clash-clause-none : goal.returns-in-Err-Clash-clause-none
 returns-in-Err-Clash-clause-none c _ _ _ s solves same =
