@@ -1,7 +1,7 @@
 -- What has no binding in an expression, by its form.
 use Rattle.std.proofs.Common.{◌+◌, ◌<◌, ◌++◌, take, length, get_or, ◌≡◌, ◌⊎◌, inl, inr, refl, sym, ◌∙◌, ap, subst, ℕ, List, [], ◌∷◌, Some, None}
 use Rattle.sml_syntax.specs.declared.tree.Ty.{Ty}
-use Rattle.sml_syntax.specs.declared.tree.Exp.{Exp}
+use Rattle.sml_syntax.specs.declared.tree.Exp.{Exp, out-Exp}
 use Rattle.sml_syntax.specs.declared.tree.Dec.{Dec}
 use Rattle.sml_syntax.specs.declared.tree.Rule.{Rule}
 use Rattle.sml_syntax.specs.declared.tree.Piece.{Piece}
@@ -13,8 +13,10 @@ use Rattle.sml_syntax.specs.declared.tree.Piece.{out-Piece}
 use Rattle.sml_syntax.specs.declared.tree.DecForm.TheOpen.{Piece-F}
 use Rattle.sml_syntax.specs.declared.tree.DecForm.{DecForm}
 use Rattle.sml_syntax.specs.declared.tree.ExpForm.{ExpForm}
+use Rattle.sml_syntax.specs.declared.tree.ExpForm.TheVariants as u
 use Rattle.sml_syntax.specs.Scope.{with_antiquoted}
 use Rattle.hm_scope.specs.Least.{Seen, Sees, Some_of, InPiece}
+use Rattle.hm_scope.proofs.Forms.{exp-tuple, exp-list, exp-seq, exp-app, exp-both, exp-either, exp-case, exp-handle}
 use Rattle.hm_scope.proofs.Scopes.{InLet}
 use Rattle.hm_scope.proofs.Leasts.{sees-to, sees-then, sees-nil, sees-two, sees-end, sees-lists, of-none}
 
@@ -109,6 +111,24 @@ sees-case e x rs a b c f s t = sees-exp e (x ∷ []) rs a b c (ap exp_parts f) (
 
 pub sees-handle : (e x : Exp) (rs : List Rule) (a b c : Seen) → form_of_exp e ≡ ExpForm-F.Handle x rs → Sees (UnboundInExp a.names x) a b → Sees (Some_of (UnboundInRule b.names) rs) b c → Sees (UnboundInExp a.names e) a c
 sees-handle e x rs a b c f s t = sees-exp e (x ∷ []) rs a b c (ap exp_parts f) (ap exp_rules f) (ap exp_type f) (λ n g h. absurd cc) (λ ds xs g. absurd cc) (sees-one (UnboundInExp a.names) x a b s) t
+
+-- the forms that stand in one arm
+pub sees-listed : (e : Exp) (es : List Exp) (a b : Seen) → (((out-Exp e).form ≡ u.Tuple es) ⊎ ((out-Exp e).form ≡ u.List es) ⊎ ((out-Exp e).form ≡ u.Seq es))
+    → Sees (Some_of (UnboundInExp a.names) es) a b → Sees (UnboundInExp a.names e) a b
+sees-listed e es a b (inl k) s = sees-tuple-exp e es a b (exp-tuple es k) s
+sees-listed e es a b (inr (inl k)) s = sees-list-exp e es a b (exp-list es k) s
+sees-listed e es a b (inr (inr k)) s = sees-seq e es a b (exp-seq es k) s
+
+pub sees-paired : (e x y : Exp) (a b c : Seen) → (((out-Exp e).form ≡ u.App x y) ⊎ ((out-Exp e).form ≡ u.Both x y) ⊎ ((out-Exp e).form ≡ u.Either x y))
+    → Sees (UnboundInExp a.names x) a b → Sees (UnboundInExp b.names y) b c → Sees (UnboundInExp a.names e) a c
+sees-paired e x y a b c (inl k) s t = sees-app e x y a b c (exp-app x y k) s t
+sees-paired e x y a b c (inr (inl k)) s t = sees-both e x y a b c (exp-both x y k) s t
+sees-paired e x y a b c (inr (inr k)) s t = sees-either e x y a b c (exp-either x y k) s t
+
+pub sees-matched : (e x : Exp) (rs : List Rule) (a b c : Seen) → (((out-Exp e).form ≡ u.Case x rs) ⊎ ((out-Exp e).form ≡ u.Handle x rs))
+    → Sees (UnboundInExp a.names x) a b → Sees (Some_of (UnboundInRule b.names) rs) b c → Sees (UnboundInExp a.names e) a c
+sees-matched e x rs a b c (inl k) s t = sees-case e x rs a b c (exp-case x rs k) s t
+sees-matched e x rs a b c (inr k) s t = sees-handle e x rs a b c (exp-handle x rs k) s t
 
 pub sees-name : (e : Exp) (name : List ℕ) (a : Seen) → form_of_exp e ≡ ExpForm-F.Name name → (status name a.names.values ≡ None → ⊥) → Sees (UnboundInExp a.names e) a a
 sees-name e name a f bound =

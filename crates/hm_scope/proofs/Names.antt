@@ -11,6 +11,7 @@ use Rattle.sml_syntax.specs.declared.tree.Dec.{Dec}
 use Rattle.sml_syntax.specs.declared.tree.DecForm.TheOpen.{DecForm-F}
 use Rattle.sml_syntax.specs.Layers.{DecLayer, form_of_pat, form_of_dec}
 use Rattle.sml_syntax.specs.Scope.{Names, Binds, BindsAll, binds_name, binds_none, binds_parts, binds_end, binds_more, Adds, AddsAll, adds_val, adds_rec, adds_abbrev, adds_data, adds_exn, adds_local, adds_nothing, adds_more, inside, variables_only, as_constructors, is_constructor, status, pat_name, pat_parts, first_parts, type_names, datatype_names, constructor_names}
+use Rattle.hm_scope.proofs.Forms.{pat-tuple, pat-list}
 
 -- the names of a pattern that is a name
 abbrev pub kept : Bool → List ℕ → List (List ℕ)
@@ -179,6 +180,11 @@ leaf f (inr (inr (inr (inr e)))) = made (ap out-PatForm (e ∙ sym w.rolls-Unit)
   where
     made : out-PatForm f ≡ PatForm-F.Unit → (pat_name (out-PatForm f) ≡ None) × (pat_parts (out-PatForm f) ≡ [])
     made k = (ap pat_name k, ap pat_parts k)
+
+-- the forms of several patterns
+pub listed : (f : PatForm) (ps : List Pat) → (f ≡ w.Tuple ps) ⊎ (f ≡ w.List ps) → (pat_name (out-PatForm f) ≡ None) × (pat_parts (out-PatForm f) ≡ ps)
+listed f ps (inl e) = (ap pat_name (pat-tuple ps e), ap pat_parts (pat-tuple ps e))
+listed f ps (inr e) = (ap pat_name (pat-list ps e), ap pat_parts (pat-list ps e))
 
 -- the status that is asked for
 pub not-constructor : (o : Option Bool) → not (option_eq beq o (Some true)) ≡ true → o ≡ Some true → ⊥

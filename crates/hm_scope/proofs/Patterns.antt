@@ -1,11 +1,13 @@
 -- What has no binding in a pattern, by its form.
 use Rattle.std.proofs.Common.{◌≡◌, ◌⊎◌, inl, inr, refl, sym, ◌∙◌, ap, subst, ℕ, List, [], ◌∷◌, Some, None}
 use Rattle.sml_syntax.specs.declared.tree.Ty.{Ty}
-use Rattle.sml_syntax.specs.declared.tree.Pat.{Pat}
+use Rattle.sml_syntax.specs.declared.tree.Pat.{Pat, out-Pat}
+use Rattle.sml_syntax.specs.declared.tree.PatForm.TheVariants as w
 use Rattle.sml_syntax.specs.declared.tree.PatForm.TheOpen.{PatForm-F}
 use Rattle.sml_syntax.specs.Layers.{form_of_pat}
 use Rattle.sml_syntax.specs.Scope.{Names, IsOneOf, first_one, other_one, pat_parts, pat_type, pat_start, status, UnboundInType, UnboundInPat, unbound_constructor, in_pat_part, in_pat_type}
 use Rattle.hm_scope.specs.Least.{Seen, Sees, Some_of}
+use Rattle.hm_scope.proofs.Forms.{pat-tuple, pat-list}
 use Rattle.hm_scope.proofs.Leasts.{sees-to, sees-then, sees-nil, of-none}
 
 abbrev pub PatCases : Names → Pat → ℕ → Type 0
@@ -40,6 +42,10 @@ sees-pat-tuple p ps a b f s = sees-pats p ps a b (ap pat_parts f) (ap pat_type f
 
 pub sees-pat-list : (p : Pat) (ps : List Pat) (a b : Seen) → form_of_pat p ≡ PatForm-F.List ps → Sees (Some_of (UnboundInPat a.names) ps) a b → Sees (UnboundInPat a.names p) a b
 sees-pat-list p ps a b f s = sees-pats p ps a b (ap pat_parts f) (ap pat_type f) (λ name q g h. absurd cc) s
+
+pub sees-pat-listed : (p : Pat) (ps : List Pat) (a b : Seen) → (((out-Pat p).form ≡ w.Tuple ps) ⊎ ((out-Pat p).form ≡ w.List ps)) → Sees (Some_of (UnboundInPat a.names) ps) a b → Sees (UnboundInPat a.names p) a b
+sees-pat-listed p ps a b (inl k) s = sees-pat-tuple p ps a b (pat-tuple ps k) s
+sees-pat-listed p ps a b (inr k) s = sees-pat-list p ps a b (pat-list ps k) s
 
 -- a constructor that has a binding, and one that has none
 pub sees-pat-con : (p q : Pat) (name : List ℕ) (a b : Seen) → form_of_pat p ≡ PatForm-F.Con name q → (status name a.names.values ≡ None → ⊥) → Sees (UnboundInPat a.names q) a b → Sees (UnboundInPat a.names p) a b

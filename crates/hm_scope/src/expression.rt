@@ -4,7 +4,7 @@ ghost use Rattle.sml_syntax.specs.Scope.{UnboundInExp, UnboundInRule, antiquoted
 ghost use Rattle.hm_scope.specs.Least.{Sees, Some_of, InPiece};
 
 use crate::search::Search;
-use sml_syntax::{Dec, Exp, ExpForm, NoMemory, Piece, Rule};
+use sml_syntax::{Exp, ExpForm, NoMemory, Piece, Rule};
 
 impl Search {
     #[cycle(programs)]
@@ -19,12 +19,12 @@ impl Search {
                 }
                 Ok(())
             }
-            ExpForm::Tuple(es) => self.exps(es.as_slice()),
-            ExpForm::List(es) => self.exps(es.as_slice()),
-            ExpForm::Seq(es) => self.exps(es.as_slice()),
-            ExpForm::App(f, argument) => {
-                self.exp(f.get())?;
-                self.exp(argument.get())
+            ExpForm::Tuple(es) | ExpForm::List(es) | ExpForm::Seq(es) => self.exps(es.as_slice()),
+            ExpForm::App(first, second)
+            | ExpForm::Both(first, second)
+            | ExpForm::Either(first, second) => {
+                self.exp(first.get())?;
+                self.exp(second.get())
             }
             ExpForm::Let(ds, es) => {
                 let outer = self.depth();
@@ -34,11 +34,7 @@ impl Search {
                 Ok(())
             }
             ExpForm::Fn(rules) => self.rules(rules.as_slice()),
-            ExpForm::Case(part, rules) => {
-                self.exp(part.get())?;
-                self.rules(rules.as_slice())
-            }
-            ExpForm::Handle(part, rules) => {
+            ExpForm::Case(part, rules) | ExpForm::Handle(part, rules) => {
                 self.exp(part.get())?;
                 self.rules(rules.as_slice())
             }
@@ -47,14 +43,6 @@ impl Search {
                 self.exp(test.get())?;
                 self.exp(chosen.get())?;
                 self.exp(otherwise.get())
-            }
-            ExpForm::Both(left, right) => {
-                self.exp(left.get())?;
-                self.exp(right.get())
-            }
-            ExpForm::Either(left, right) => {
-                self.exp(left.get())?;
-                self.exp(right.get())
             }
             ExpForm::Quote(pieces) => self.pieces(pieces.as_slice()),
             ExpForm::Typed(part, t) => {

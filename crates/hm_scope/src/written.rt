@@ -72,8 +72,7 @@ impl Search {
             | PatForm::Str(_)
             | PatForm::Unit
             | PatForm::Name(_) => {}
-            PatForm::Tuple(ps) => self.pats(ps.as_slice()),
-            PatForm::List(ps) => self.pats(ps.as_slice()),
+            PatForm::Tuple(ps) | PatForm::List(ps) => self.pats(ps.as_slice()),
             PatForm::Con(name, argument) => {
                 if self.status(name.as_bytes()).is_none() {
                     self.find(p.span.from);
@@ -111,8 +110,7 @@ impl Search {
                 }
                 Ok(())
             }
-            PatForm::Tuple(ps) => self.bound_all(ps.as_slice(), names),
-            PatForm::List(ps) => self.bound_all(ps.as_slice(), names),
+            PatForm::Tuple(ps) | PatForm::List(ps) => self.bound_all(ps.as_slice(), names),
             PatForm::Con(_, argument) => self.bound(argument.get(), names),
             PatForm::Typed(part, _) => self.bound(part.get(), names),
         }

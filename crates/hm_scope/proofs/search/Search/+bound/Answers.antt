@@ -1,8 +1,8 @@
 use Rattle.std.proofs.Common.{◌++◌, ◌∷◌, [], subst, sym, ap, ◌∙◌}
 use Rattle.std.proofs.lemmas.Result.{on_ok_weaker}
 use Rattle.sml_syntax.specs.Scope.{status, pat_name, pat_parts}
-use Rattle.hm_scope.proofs.Forms.{pat-con, pat-tuple, pat-list, pat-typed, pat-name}
-use Rattle.hm_scope.proofs.Names.{Grows, GrowsAll, grows-parts, grows-nothing, grows-leaf, grows-part, grows-next, grows-name, grows-constructor, is-variable, not-constructor, a-constructor, known-constructor, leaf}
+use Rattle.hm_scope.proofs.Forms.{pat-con, pat-typed, pat-name}
+use Rattle.hm_scope.proofs.Names.{Grows, GrowsAll, grows-parts, grows-nothing, grows-leaf, grows-part, grows-next, grows-name, grows-constructor, is-variable, not-constructor, a-constructor, known-constructor, leaf, listed}
 use Rattle.hm_scope.proofs.search.Search.+bound.Goals as goal
 
 pub bound-returns-in_ok-push-in-Name : goal.bound-returns-in_ok-push-in-Name
@@ -17,12 +17,10 @@ bound-returns-else-ne t c =
     (known-constructor c.args.self.now.names c.in-Name.name (ap (λ z. status z c.args.self.now.names.values) (sym c.as_bytes.ensures) ∙ sym c.status.ensures ∙ a-constructor c.status.result (sym c.ne.ensures ∙ c.if-ne.false)))
 
 pub bound-returns-in-Tuple : goal.bound-returns-in-Tuple
-bound-returns-in-Tuple t c = on_ok_weaker _ (λ g. grows-parts c.args.self.now.names c.args.p.now c.in-Tuple.ps c.args.names.now.items c.bound_all.new.names.items (ap pat_name (pat-tuple c.in-Tuple.ps c.in-Tuple.is)) (ap pat_parts (pat-tuple c.in-Tuple.ps c.in-Tuple.is))
+bound-returns-in-Tuple t c =
+    let l = listed c.args.p.now.form c.in-Tuple.ps c.in-Tuple.is in
+    on_ok_weaker _ (λ g. grows-parts c.args.self.now.names c.args.p.now c.in-Tuple.ps c.args.names.now.items c.bound_all.new.names.items l.0 l.1
     (subst (λ ps. GrowsAll c.args.self.now.names ps c.args.names.now.items c.bound_all.new.names.items) c.as_slice.ensures g)) c.bound_all.ensures
-
-pub bound-returns-in-List : goal.bound-returns-in-List
-bound-returns-in-List t c = on_ok_weaker _ (λ g. grows-parts c.args.self.now.names c.args.p.now c.in-List.ps c.args.names.now.items c.bound_all-in-List.new.names.items (ap pat_name (pat-list c.in-List.ps c.in-List.is)) (ap pat_parts (pat-list c.in-List.ps c.in-List.is))
-    (subst (λ ps. GrowsAll c.args.self.now.names ps c.args.names.now.items c.bound_all-in-List.new.names.items) c.as_slice-in-List.ensures g)) c.bound_all-in-List.ensures
 
 pub bound-returns-in-Con : goal.bound-returns-in-Con
 bound-returns-in-Con t c = on_ok_weaker _ (λ g. grows-part c.args.self.now.names c.args.p.now c.in-Con.argument c.args.names.now.items c.bound.new.names.items (ap pat_name (pat-con c.in-Con.field-0 c.in-Con.argument c.in-Con.is)) (ap pat_parts (pat-con c.in-Con.field-0 c.in-Con.argument c.in-Con.is))

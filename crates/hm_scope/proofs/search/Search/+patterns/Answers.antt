@@ -3,13 +3,13 @@ use Rattle.sml_syntax.specs.Scope.{UnboundInPat, status}
 use Rattle.hm_scope.specs.Least.{Sees}
 use Rattle.hm_scope.proofs.Leasts.{seen-as, sees-next, sees-whole}
 use Rattle.hm_scope.proofs.Leasts.{none_of, not_none}
-use Rattle.hm_scope.proofs.Forms.{pat-con, pat-tuple, pat-list, pat-typed}
-use Rattle.hm_scope.proofs.Patterns.{sees-pat-tuple, sees-pat-list, sees-pat-typed, sees-pat-con, sees-pat-unbound}
+use Rattle.hm_scope.proofs.Forms.{pat-con, pat-typed}
+use Rattle.hm_scope.proofs.Patterns.{sees-pat-listed, sees-pat-typed, sees-pat-con, sees-pat-unbound}
 use Rattle.hm_scope.proofs.search.Search.+patterns.Goals as goal
 use Rattle.hm_scope.proofs.search.Search.+patterns.Goals.{pat-then-is_none, pat-else-is_none}
 
 pub pat-returns-in-Tuple : goal.pat-returns-in-Tuple
-pat-returns-in-Tuple t c = sees-pat-tuple c.args.p.now c.in-Tuple.ps c.args.self.now c.pats.new.self (pat-tuple c.in-Tuple.ps c.in-Tuple.is)
+pat-returns-in-Tuple t c = sees-pat-listed c.args.p.now c.in-Tuple.ps c.args.self.now c.pats.new.self c.in-Tuple.is
     (seen-as _ _ _ _ _ c.as_slice.ensures c.pats.ensures)
 
 pub pats-loop-p-preserved : goal.pats-loop-p-preserved
@@ -17,10 +17,6 @@ pats-loop-p-preserved t c = sees-next (λ n. UnboundInPat n) c.args.ps.now c.loo
 
 pub pats-returns : goal.pats-returns
 pats-returns t c = sees-whole (UnboundInPat c.args.self.now.names) c.args.ps.now c.loop-p.p-index c.args.self.now c.loop-p.self (omega (arith, c.loop-p-test.false)) c.loop-p.invariant
-
-pub pat-returns-in-List : goal.pat-returns-in-List
-pat-returns-in-List t c = sees-pat-list c.args.p.now c.in-List.ps c.args.self.now c.pats-in-List.new.self (pat-list c.in-List.ps c.in-List.is)
-    (seen-as _ _ _ _ _ c.as_slice-in-List.ensures c.pats-in-List.ensures)
 
 pub pat-returns-in-Typed : goal.pat-returns-in-Typed
 pat-returns-in-Typed t c = sees-pat-typed c.args.p.now c.in-Typed.part c.in-Typed.t c.args.self.now c.pat-in-Typed.new.self c.ty.new.self (pat-typed c.in-Typed.part c.in-Typed.t c.in-Typed.is)

@@ -4,20 +4,11 @@ use Rattle.std.proofs.lemmas.Result.{on_ok_weaker}
 use Rattle.sml_syntax.specs.Scope.{status, Binds, BindsAll, binds_end, UnboundInExp, UnboundInRule, inside, variables_only, as_variables, antiquoted, first_parts}
 use Rattle.hm_scope.specs.Least.{Sees, Some_of, SeesDecs, SeesAbbreviations, SeesDatatypes, SeesExceptions}
 use Rattle.hm_scope.proofs.Leasts.{seen-as, sees-next, sees-whole, sees-nil, none_of, not_none}
-use Rattle.hm_scope.proofs.Forms.{exp-name, exp-tuple, exp-list, exp-seq, exp-app, exp-let, exp-fn, exp-case, exp-handle, exp-raise, exp-if, exp-both, exp-either, exp-quote, exp-typed, dec-val, dec-valrec, dec-abbrev, dec-datadef, dec-exndef, dec-local, piece-plain, piece-anti}
-use Rattle.hm_scope.proofs.Expressions.{sees-tuple-exp, sees-list-exp, sees-seq, sees-app, sees-both, sees-either, sees-raise, sees-if, sees-quote, sees-fn, sees-case, sees-handle, sees-name, sees-name-unbound, sees-typed, sees-pieces-next, sees-plain, sees-anti, sees-let}
+use Rattle.hm_scope.proofs.Forms.{exp-name, exp-let, exp-fn, exp-raise, exp-if, exp-quote, exp-typed, dec-val, dec-valrec, dec-abbrev, dec-datadef, dec-exndef, dec-local, piece-plain, piece-anti}
+use Rattle.hm_scope.proofs.Expressions.{sees-listed, sees-paired, sees-matched, sees-raise, sees-if, sees-quote, sees-fn, sees-name, sees-name-unbound, sees-typed, sees-pieces-next, sees-plain, sees-anti, sees-let}
 use Rattle.hm_scope.proofs.Scopes.{added, sees-rule, sees-let-in, sees-local, sees-decs-nil, sees-decs-next, sees-decs-whole}
 use Rattle.hm_scope.proofs.Declarations.{InBinding, SeesVal, SeesFunctions, sees-dec-val, sees-dec-functions, sees-dec-abbreviations, sees-dec-datatypes, sees-dec-exceptions, sees-dec-local, functions-start, functions-next, functions-whole, sees-binding, binds-next, sees-val}
 use Rattle.hm_scope.proofs.search.Search.+programs.Goals as goal
-
-pub exp-returns-in-Tuple : goal.exp-returns-in-Tuple
-exp-returns-in-Tuple t c = on_ok_weaker _ (λ s. sees-tuple-exp c.args.e.now c.in-Tuple.es c.args.self.now c.exps.new.self (exp-tuple c.in-Tuple.es c.in-Tuple.is) (seen-as _ _ _ _ _ c.as_slice.ensures s)) c.exps.ensures
-
-pub exp-returns-in-List : goal.exp-returns-in-List
-exp-returns-in-List t c = on_ok_weaker _ (λ s. sees-list-exp c.args.e.now c.in-List.es c.args.self.now c.exps-in-List.new.self (exp-list c.in-List.es c.in-List.is) (seen-as _ _ _ _ _ c.as_slice-in-List.ensures s)) c.exps-in-List.ensures
-
-pub exp-returns-in-Seq : goal.exp-returns-in-Seq
-exp-returns-in-Seq t c = on_ok_weaker _ (λ s. sees-seq c.args.e.now c.in-Seq.es c.args.self.now c.exps-in-Seq.new.self (exp-seq c.in-Seq.es c.in-Seq.is) (seen-as _ _ _ _ _ c.as_slice-in-Seq.ensures s)) c.exps-in-Seq.ensures
 
 pub exp-returns-in-Fn : goal.exp-returns-in-Fn
 exp-returns-in-Fn t c = on_ok_weaker _ (λ s. sees-fn c.args.e.now c.in-Fn.rules c.args.self.now c.rules.new.self (exp-fn c.in-Fn.rules c.in-Fn.is) (seen-as _ _ _ _ _ c.as_slice-in-Fn.ensures s)) c.rules.ensures
@@ -26,32 +17,7 @@ pub exp-returns-in-Quote : goal.exp-returns-in-Quote
 exp-returns-in-Quote t c = on_ok_weaker _ (λ s. sees-quote c.args.e.now c.in-Quote.pieces c.args.self.now c.pieces.new.self (exp-quote c.in-Quote.pieces c.in-Quote.is) (subst (λ l. Sees (Some_of (UnboundInExp c.args.self.now.names) (antiquoted l)) c.args.self.now c.pieces.new.self) c.as_slice-in-Quote.ensures s)) c.pieces.ensures
 
 pub exp-returns-in-Raise : goal.exp-returns-in-Raise
-exp-returns-in-Raise t c = on_ok_weaker _ (λ s. sees-raise c.args.e.now c.in-Raise.part c.args.self.now c.exp-in-Raise.new.self (exp-raise c.in-Raise.part c.in-Raise.is) (subst (λ x. Sees (UnboundInExp c.args.self.now.names x) c.args.self.now c.exp-in-Raise.new.self) c.get-in-Raise.ensures s)) c.exp-in-Raise.ensures
-
-pub exp-returns-in_ok-exp-in-App : goal.exp-returns-in_ok-exp-in-App
-exp-returns-in_ok-exp-in-App t c = on_ok_weaker _ (λ s. sees-app c.args.e.now c.in-App.f c.in-App.argument c.args.self.now c.exp.new.self c.exp-in-App.new.self (exp-app c.in-App.f c.in-App.argument c.in-App.is)
-    (subst (λ x. Sees (UnboundInExp c.args.self.now.names x) c.args.self.now c.exp.new.self) c.get.ensures c.in_ok-exp-in-App.ensures)
-    (subst (λ x. Sees (UnboundInExp c.exp.new.self.names x) c.exp.new.self c.exp-in-App.new.self) c.get-in-App.ensures s)) c.exp-in-App.ensures
-
-pub exp-returns-in_ok-exp-in-Both : goal.exp-returns-in_ok-exp-in-Both
-exp-returns-in_ok-exp-in-Both t c = on_ok_weaker _ (λ s. sees-both c.args.e.now c.in-Both.left c.in-Both.right c.args.self.now c.exp-in-Both.new.self c.exp-in-Both-2.new.self (exp-both c.in-Both.left c.in-Both.right c.in-Both.is)
-    (subst (λ x. Sees (UnboundInExp c.args.self.now.names x) c.args.self.now c.exp-in-Both.new.self) c.get-in-Both.ensures c.in_ok-exp-in-Both.ensures)
-    (subst (λ x. Sees (UnboundInExp c.exp-in-Both.new.self.names x) c.exp-in-Both.new.self c.exp-in-Both-2.new.self) c.get-in-Both-2.ensures s)) c.exp-in-Both-2.ensures
-
-pub exp-returns-in_ok-exp-in-Either : goal.exp-returns-in_ok-exp-in-Either
-exp-returns-in_ok-exp-in-Either t c = on_ok_weaker _ (λ s. sees-either c.args.e.now c.in-Either.left c.in-Either.right c.args.self.now c.exp-in-Either.new.self c.exp-in-Either-2.new.self (exp-either c.in-Either.left c.in-Either.right c.in-Either.is)
-    (subst (λ x. Sees (UnboundInExp c.args.self.now.names x) c.args.self.now c.exp-in-Either.new.self) c.get-in-Either.ensures c.in_ok-exp-in-Either.ensures)
-    (subst (λ x. Sees (UnboundInExp c.exp-in-Either.new.self.names x) c.exp-in-Either.new.self c.exp-in-Either-2.new.self) c.get-in-Either-2.ensures s)) c.exp-in-Either-2.ensures
-
-pub exp-returns-in_ok-exp-in-Case : goal.exp-returns-in_ok-exp-in-Case
-exp-returns-in_ok-exp-in-Case t c = on_ok_weaker _ (λ s. sees-case c.args.e.now c.in-Case.part c.in-Case.rules c.args.self.now c.exp-in-Case.new.self c.rules-in-Case.new.self (exp-case c.in-Case.part c.in-Case.rules c.in-Case.is)
-    (subst (λ x. Sees (UnboundInExp c.args.self.now.names x) c.args.self.now c.exp-in-Case.new.self) c.get-in-Case.ensures c.in_ok-exp-in-Case.ensures)
-    (seen-as _ _ _ _ _ c.as_slice-in-Case.ensures s)) c.rules-in-Case.ensures
-
-pub exp-returns-in_ok-exp-in-Handle : goal.exp-returns-in_ok-exp-in-Handle
-exp-returns-in_ok-exp-in-Handle t c = on_ok_weaker _ (λ s. sees-handle c.args.e.now c.in-Handle.part c.in-Handle.rules c.args.self.now c.exp-in-Handle.new.self c.rules-in-Handle.new.self (exp-handle c.in-Handle.part c.in-Handle.rules c.in-Handle.is)
-    (subst (λ x. Sees (UnboundInExp c.args.self.now.names x) c.args.self.now c.exp-in-Handle.new.self) c.get-in-Handle.ensures c.in_ok-exp-in-Handle.ensures)
-    (seen-as _ _ _ _ _ c.as_slice-in-Handle.ensures s)) c.rules-in-Handle.ensures
+exp-returns-in-Raise t c = on_ok_weaker _ (λ s. sees-raise c.args.e.now c.in-Raise.part c.args.self.now c.exp.new.self (exp-raise c.in-Raise.part c.in-Raise.is) (subst (λ x. Sees (UnboundInExp c.args.self.now.names x) c.args.self.now c.exp.new.self) c.get.ensures s)) c.exp.ensures
 
 pub exp-returns-in_ok-exp-in-If-2 : goal.exp-returns-in_ok-exp-in-If-2
 exp-returns-in_ok-exp-in-If-2 t c = on_ok_weaker _ (λ s. sees-if c.args.e.now c.in-If.test c.in-If.chosen c.in-If.otherwise c.args.self.now c.exp-in-If.new.self c.exp-in-If-2.new.self c.exp-in-If-3.new.self (exp-if c.in-If.test c.in-If.chosen c.in-If.otherwise c.in-If.is)
@@ -169,8 +135,21 @@ dec-returns-in_ok-hide-in-Local t c =
 
 pub exp-returns-in_ok-exps-in-Let : goal.exp-returns-in_ok-exps-in-Let
 exp-returns-in_ok-exps-in-Let t c =
-    let s = subst (λ l. SeesDecs l c.args.self.now c.decs.new.self) c.as_slice-in-Let.ensures c.in_ok-decs-in-Let.ensures in
-    let u = seen-as _ _ _ _ _ c.as_slice-in-Let-2.ensures c.in_ok-exps-in-Let.ensures in
+    let s = subst (λ l. SeesDecs l c.args.self.now c.decs.new.self) c.as_slice.ensures c.in_ok-decs-in-Let.ensures in
+    let u = seen-as _ _ _ _ _ c.as_slice-in-Let.ensures c.in_ok-exps-in-Let.ensures in
     let left = c.cut.ensures s.more c.args.self.now.names (u.same ∙ s.names) c.depth-outer.ensures.values c.depth-outer.ensures.types in
     sees-let c.args.e.now c.in-Let.ds c.in-Let.es c.args.self.now c.cut.new.self (exp-let c.in-Let.ds c.in-Let.es c.in-Let.is)
-    (sees-let-in c.in-Let.ds c.in-Let.es c.args.self.now c.decs.new.self c.exps-in-Let.new.self c.cut.new.self s u (ap (λ z. z.names) left) (ap (λ z. z.first) left))
+    (sees-let-in c.in-Let.ds c.in-Let.es c.args.self.now c.decs.new.self c.exps.new.self c.cut.new.self s u (ap (λ z. z.names) left) (ap (λ z. z.first) left))
+
+pub exp-returns-in-Tuple : goal.exp-returns-in-Tuple
+exp-returns-in-Tuple t c = on_ok_weaker _ (λ s. sees-listed c.args.e.now c.in-Tuple.es c.args.self.now c.exps-in-Tuple.new.self c.in-Tuple.is (seen-as _ _ _ _ _ c.as_slice-in-Tuple.ensures s)) c.exps-in-Tuple.ensures
+
+pub exp-returns-in_ok-exp-in-App : goal.exp-returns-in_ok-exp-in-App
+exp-returns-in_ok-exp-in-App t c = on_ok_weaker _ (λ s. sees-paired c.args.e.now c.in-App.first c.in-App.second c.args.self.now c.exp-in-App.new.self c.exp-in-App-2.new.self c.in-App.is
+    (subst (λ x. Sees (UnboundInExp c.args.self.now.names x) c.args.self.now c.exp-in-App.new.self) c.get-in-App.ensures c.in_ok-exp-in-App.ensures)
+    (subst (λ x. Sees (UnboundInExp c.exp-in-App.new.self.names x) c.exp-in-App.new.self c.exp-in-App-2.new.self) c.get-in-App-2.ensures s)) c.exp-in-App-2.ensures
+
+pub exp-returns-in_ok-exp-in-Case : goal.exp-returns-in_ok-exp-in-Case
+exp-returns-in_ok-exp-in-Case t c = on_ok_weaker _ (λ s. sees-matched c.args.e.now c.in-Case.part c.in-Case.rules c.args.self.now c.exp-in-Case.new.self c.rules-in-Case.new.self c.in-Case.is
+    (subst (λ x. Sees (UnboundInExp c.args.self.now.names x) c.args.self.now c.exp-in-Case.new.self) c.get-in-Case.ensures c.in_ok-exp-in-Case.ensures)
+    (seen-as _ _ _ _ _ c.as_slice-in-Case.ensures s)) c.rules-in-Case.ensures
