@@ -8,7 +8,7 @@ use std::process::Abort;
 use std::test::Fail;
 
 /// The place, or the empty text where all has a binding.
-const ROWS: [(&str, &str); 44] = [
+const ROWS: [(&str, &str); 43] = [
     ("val _ = (b, a)", "9"),
     ("val x = x", "8"),
     ("val (x, y) = (1, 2) val _ = (x, y, z)", "35"),
@@ -34,7 +34,6 @@ const ROWS: [(&str, &str); 44] = [
     ("val _ = 1 : (t, u) v", "13"),
     ("val _ = 1 : int -> t", "19"),
     ("val _ = 1 : int * t", "18"),
-    ("val _ = nil : 'a list", "14"),
     ("type 'a t = 'b", "12"),
     ("type 'a t = 'a list type u = int t", ""),
     ("type t = u and u = int", "9"),

@@ -149,7 +149,9 @@ impl Search {
     }
 }
 
-/// The least place of the program where a name, a type name or a type variable has no binding.
+/// The least place of the program where a name, a type name or a type variable has no binding, as a byte offset in its
+/// text. Scopes are those of The Definition of Standard ML (sections 2.9 and 4), outermost the names of the basis.
+/// `NoMemory` comes where the list of the names in scope can't grow.
 pub fn first_unbound(alloc: Global, program: &Program) -> Result<Option<u64>, NoMemory>
     ensures { IfOk result (λ found. MatchOption found (AllBound program.now) (IsFirstUnbound program.now)) }
 {
