@@ -70,7 +70,10 @@ fn pairs_become_equal_or_clash_from_then_on(rt: HostRuntime) -> Result<(), Fail>
         let mut types = start(rt.alloc())?;
         assert!(rt; joins(&mut types, pair) == Ok(equal), "{pair}");
         let int = types.plain.int;
-        assert!(rt; unifies(&mut types, int, int) == Ok(equal), "{pair} after it");
+        assert!(rt;
+            unifies(&mut types, int, int) == Ok(equal),
+            "{pair} after it"
+        );
         assert!(rt; types.table.is_solved() == equal, "{pair} in the table");
     }
     Ok(())
@@ -118,7 +121,12 @@ fn copies_young(types: &mut Types) -> Result<bool, Stop> {
     let from = types.part(copy, 0)?;
     let string = types.plain.string;
     let int = types.plain.int;
-    Ok(unifies(types, to, string)? && unifies(types, young, int)? && unifies(types, from, int)? && !unifies(types, old, string)?)
+    Ok(
+        unifies(types, to, string)?
+            && unifies(types, young, int)?
+            && unifies(types, from, int)?
+            && !unifies(types, old, string)?,
+    )
 }
 
 #[test]
@@ -162,7 +170,9 @@ fn what_is_no_class_or_name_is_refused(rt: HostRuntime) -> Result<(), Fail> {
     assert!(rt; types.unify(0, count) == Err(Stop::Ill));
     assert!(rt; types.con(0, &[0]) == Err(Stop::Ill) && types.con(99, &[]) == Err(Stop::Ill));
     assert!(rt; types.list(count) == Err(Stop::Ill));
-    assert!(rt; types.tuple(&[0]) == Err(Stop::Ill) && types.tuple(&[0, 0, 0, 0, 0, 0]) == Err(Stop::Ill));
+    assert!(rt;
+        types.tuple(&[0]) == Err(Stop::Ill) && types.tuple(&[0, 0, 0, 0, 0, 0]) == Err(Stop::Ill)
+    );
     assert!(rt; types.part(0, 0) == Err(Stop::Ill) && types.copy(count, 0) == Err(Stop::Ill));
     assert!(rt; types.mark() == count && types.table.is_solved());
     assert!(rt; types.spelt(b"A2".as_slice()) == Err(Stop::Ill));
@@ -225,7 +235,11 @@ fn names_have_numbers_and_meanings(rt: HostRuntime) -> Result<(), Fail> {
 #[test]
 fn programs_have_a_widest_tuple(rt: HostRuntime) -> Result<(), Fail> {
     let alloc = rt.alloc();
-    for (text, width) in [("1", 0), ("fn (a, b, c) => [(a, b)]", 3), ("exception E of int * int", 2)] {
+    for (text, width) in [
+        ("1", 0),
+        ("fn (a, b, c) => [(a, b)]", 3),
+        ("exception E of int * int", 2),
+    ] {
         let Ok(tokens) = lex(alloc, text.as_bytes()) else {
             return Err("no tokens")?;
         };
