@@ -130,6 +130,22 @@ fn answers_alike(rt: HostRuntime) {
     }
 }
 
+#[test]
+fn peeks(rt: HostRuntime) {
+    let kind = Kind {
+        used: true,
+        time: Some(10),
+        size: None,
+    };
+    let mut rows = Rows::make(rt.alloc(), kind).expect(&rt, "memory");
+    let (key, value) = (text(&rt, "a"), text(&rt, "x"));
+    assert!(rt; rows.peek(100, &key) == None);
+    assert!(rt; rows.put(100, &key, &value) == Ok(true));
+    assert!(rt; rows.peek(109, &key) == Some(&value));
+    assert!(rt; rows.peek(110, &key) == None);
+    assert!(rt; rows.look(109, &key) == Ok(Some(value)));
+}
+
 fn both_keep_to(rt: &(impl Abort + AllocGlobal), kind: Kind, steps: &[Step]) {
     let mut list = ListRows::make(rt.alloc(), kind).expect(rt, "memory");
     keep_to(rt, &mut list, steps);

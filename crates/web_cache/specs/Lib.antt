@@ -1,0 +1,2 @@
+pub mod CacheMachine
+pub mod Shown
