@@ -95,6 +95,14 @@ pub record GroupStep (old : Group) (call : CacheCall) (moment : ℕ) (new : Grou
   pub last : new.last ≡ moment
   pub caches : OpStep call.id moment call.op old.caches answer new.caches
 
+abbrev pub last_of : Option Group → ℕ
+last_of None = 0
+last_of (Some group) = group.last
+
+-- the last moment of the group with a number
+abbrev pub last_moment : List Group → ℕ → ℕ
+last_moment groups number = last_of (slice_get groups number)
+
 -- what a call answers and makes of the sixteen groups
 pub record CacheStep (old : List Group) (call : CacheCall) (moment : ℕ) (new : List Group) (answer : CacheAns) : Type 0 where
   pub group : Group

@@ -1,7 +1,7 @@
 // All caches, in their groups.
-ghost use Rattle.std.specs.Prelude.{◌≡◌, ◌≤◌, ◌<◌, true, IfOk, OnErr, slice_get, Some};
+ghost use Rattle.std.specs.Prelude.{◌≡◌, ◌≤◌, ◌<◌, true, IfOk, OnErr};
 ghost use Rattle.sml_syntax.specs.CacheCalls.{cache_call_fits};
-ghost use Rattle.web_cache.specs.CacheMachine.{Group, CacheStep, group_number, new_groups};
+ghost use Rattle.web_cache.specs.CacheMachine.{CacheStep, group_number, last_moment, new_groups};
 
 use crate::group::{CacheGroup, group_of};
 use sml_syntax::{CacheAns, CacheCall, NoMemory};
@@ -40,7 +40,7 @@ impl Caches {
     /// The last moment of a group.
     pub fn last(&self, group: u8) -> u64
         requires { group < 16 }
-        ensures { (g : Group) × (slice_get self.now group ≡ Some g) × (result ≡ g.last) }
+        ensures { result ≡ last_moment self.now group }
     {
         self.groups[group as usize].last()
     }
@@ -48,7 +48,7 @@ impl Caches {
     /// Makes a call at a moment.
     pub fn act(&mut self, now: u64, call: &CacheCall) -> Result<CacheAns, NoMemory>
         requires fits { cache_call_fits call.now ≡ true }
-        requires moment { (g : Group) → slice_get self.old (group_number call.now.id.name) ≡ Some g → g.last ≤ now }
+        requires moment { last_moment self.old (group_number call.now.id.name) ≤ now }
         ensures ok { IfOk result (λ answer. CacheStep self.old call.now now self.new answer) }
         ensures err { OnErr result (self.new ≡ self.old) }
     {
