@@ -1,2 +1,4 @@
 pub mod Showing
 pub mod Grouping
+pub mod Naming
+pub mod OneAnswer

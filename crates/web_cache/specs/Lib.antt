@@ -1,2 +1,4 @@
 pub mod CacheMachine
 pub mod Shown
+pub mod Codes
+pub mod Apart

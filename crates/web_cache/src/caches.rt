@@ -20,6 +20,11 @@ impl Model for Caches {
 
     ghost Value = { List Group };
 
+    ghost use Rattle.std.specs.Coded.{coded_list};
+    ghost use Rattle.web_cache.specs.Codes.{group_code};
+
+    ghost coded = { coded_list group_code };
+
     ghost view = { λ c. c.groups.items };
 
     ghost invariant = { λ c. length c.groups.items ≡ 16 };

@@ -43,6 +43,10 @@ impl Model for CacheGroup {
 
     ghost Value = { Group };
 
+    ghost use Rattle.web_cache.specs.Codes.{group_code};
+
+    ghost coded = { group_code };
+
     ghost view = { λ g. record { number = g.number; last = g.last; caches = map standing_of g.caches.items } };
 
     ghost invariant = { λ g. IsBy g.last g.caches.items };

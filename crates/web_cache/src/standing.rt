@@ -26,6 +26,10 @@ impl Model for StandingCache {
 
     ghost Value = { Kept };
 
+    ghost use Rattle.web_cache.specs.Codes.{kept_code};
+
+    ghost coded = { kept_code };
+
     ghost view = { λ c. record { id = c.id; rows = c.shown.0; last = c.rows.last } };
 
     ghost invariant = { λ c. c.rows.kind ≡ c.id.kind };
@@ -107,7 +111,7 @@ fn look(
 
 /// The datum of a pickle, if there is one.
 fn read_value(alloc: Global, desc: &Desc, text: Option<&Text>) -> Result<Option<Datum>, NoMemory>
-    ensures { IfOk result (Reads desc.now (option_map (λ t. t.now) text)) }
+    ensures { IfOk result (Reads desc.now (option_map (λ t. t.now) text.entry)) }
 {
     let Some(text) = text else {
         return Ok(None);
