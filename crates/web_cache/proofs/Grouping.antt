@@ -1,6 +1,7 @@
 -- What a call on one of the caches of a group makes of them all.
-use Rattle.std.proofs.Common.{◌≡◌, ◌⊎◌, inl, ℕ, ◌<◌, ◌≤◌, List, [], ◌∷◌, ◌++◌, map, length, slice_get, slice_set, Bool, Some, refl, ap, sym, ◌∙◌, subst, arith}
+use Rattle.std.proofs.Common.{◌≡◌, ◌⊎◌, inl, ℕ, ◌<◌, ◌≤◌, List, [], ◌∷◌, ◌++◌, map, length, slice_get, slice_set, get_or, Bool, Some, Result, IfOk, refl, ap, sym, ◌∙◌, subst, arith}
 use Rattle.std.specs.List.{AllByRecursion}
+use Rattle.std.proofs.lemmas.Option.{get_or_from_slice_get}
 use Rattle.sml_syntax.specs.declared.datum.Datum.{Datum}
 use Rattle.sml_syntax.specs.declared.cache.CacheId.{CacheId}
 use Rattle.sml_syntax.specs.declared.cache.CacheOp.{CacheOp}
@@ -10,7 +11,7 @@ use Rattle.sml_syntax.specs.declared.cache.CacheAns.TheVariants as ans
 use Rattle.cache_rows.proofs.Lists.{At, at-place, all-append, all-left, all-right, all-weaker}
 use Rattle.web_cache.specs.CacheMachine.{Standing, OpStep, AbsentStep, RowsStep, most_caches}
 use Rattle.web_cache.specs.Shown.{Kept, IsBy, standing_of}
-use Rattle.web_cache.proofs.Showing.{images}
+use Rattle.web_cache.proofs.Showing.{images, if_ok}
 
 length-standing : (xs : List Kept) → length (map standing_of xs) ≡ length xs
 length-standing [] = refl
@@ -76,3 +77,10 @@ length-set xs i x y e = let p = at-place xs i x e in ap length (p.with y) ∙ (l
 -- an item that is replaced by itself
 pub set-same : {A : Type 0} (xs : List A) (i : ℕ) (x y : A) → slice_get xs i ≡ Some x → y ≡ x → slice_set xs i y ≡ xs
 set-same xs i x y e h = let p = at-place xs i x e in p.with y ∙ (ap (λ z. p.before ++ z ∷ p.after) h ∙ sym p.whole)
+
+-- a cache that stands acted, and is written back
+pub acted : {E : Type 0} (r : Result CacheAns E) (ys xs : List Kept) (i : ℕ) (was new x : Kept) (id : CacheId) (moment : ℕ) (call : CacheOp) → ys ≡ xs → slice_get ys i ≡ Some x → x.id ≡ id → was ≡ get_or xs i was → new.id ≡ was.id → IfOk r (λ a. RowsStep was.id moment call was.rows a new.rows) → IfOk r (λ a. OpStep id moment call (map standing_of xs) a (map standing_of (slice_set xs i new)))
+acted r ys xs i was new x id moment call so there same value kept h =
+    let there = subst (λ z. slice_get z i ≡ Some x) so there in
+    let e : was ≡ x = value ∙ get_or_from_slice_get xs i x was there in
+    if_ok r _ _ (λ a g. acts xs i x there new (slice_set xs i new) refl id moment call a same (subst (λ (z : Kept). RowsStep z.id moment call z.rows a new.rows) e g) (kept ∙ ap (λ (z : Kept). z.id) e)) h

@@ -1,3 +1,4 @@
+pub mod Descriptions
 pub mod Showing
 pub mod Grouping
 pub mod Naming

@@ -75,6 +75,18 @@ rows-once id moment op.Flush old a b new other d h g =
     let y = flush-answer id moment old b other g in
     (x.0 ∙ sym y.0, x.1 ∙ sym y.1)
 
+-- what an insert into a cache that doesn't stand comes to
+abbrev pub FirstOrFull : CacheId → ℕ → Datum → Datum → List Standing → CacheAns → List Standing → Type 0
+FirstOrFull id moment key value old a new = ((fresh : Bool) × ((a ≡ ans.Fresh fresh) × PutsFirst id moment key value fresh old new)) ⊎ ((a ≡ ans.Full) × ((most_caches ≤ length old) × (new ≡ old)))
+
+puts-first-once : (id : CacheId) (moment : ℕ) (key value : Datum) (old : List Standing) (a b : CacheAns) (new other : List Standing) → FirstOrFull id moment key value old a new → FirstOrFull id moment key value old b other → (a ≡ b) × (new ≡ other)
+puts-first-once id moment key value old a b new other (inl x) (inl y) =
+    let l = puts-once (row_size id) id.kind moment key value [] x.0 y.0 x.1.1.rows y.1.1.rows tt x.1.1.puts y.1.1.puts in
+    (x.1.0 ∙ (ap ans.Fresh l.0 ∙ sym y.1.0), x.1.1.new_is ∙ (ap (λ (z : List DataRow). old ++ record { id = id; rows = z } ∷ []) l.1 ∙ sym y.1.1.new_is))
+puts-first-once id moment key value old a b new other (inl x) (inr y) = let r = x.1.1.room in let s = y.1.0 in absurd (omega (arith, r, s))
+puts-first-once id moment key value old a b new other (inr x) (inl y) = let r = y.1.1.room in let s = x.1.0 in absurd (omega (arith, r, s))
+puts-first-once id moment key value old a b new other (inr x) (inr y) = (x.0 ∙ sym y.0, x.1.1 ∙ sym y.1.1)
+
 -- the same where the cache doesn't stand
 pub absent-look : (id : CacheId) (moment : ℕ) (key : Datum) (old : List Standing) (a : CacheAns) (new : List Standing) → AbsentStep id moment (op.Look key) old a new → (a ≡ ans.Absent) × (new ≡ old)
 absent-look id moment key old (ans.Found v) new h = absurd h
@@ -83,7 +95,7 @@ absent-look id moment key old (ans.Fresh b) new h = absurd h
 absent-look id moment key old ans.Flushed new h = absurd h
 absent-look id moment key old ans.Full new h = absurd h
 
-pub absent-put : (id : CacheId) (moment : ℕ) (key value : Datum) (old : List Standing) (a : CacheAns) (new : List Standing) → AbsentStep id moment (op.Put key value) old a new → ((fresh : Bool) × ((a ≡ ans.Fresh fresh) × PutsFirst id moment key value fresh old new)) ⊎ ((a ≡ ans.Full) × ((most_caches ≤ length old) × (new ≡ old)))
+pub absent-put : (id : CacheId) (moment : ℕ) (key value : Datum) (old : List Standing) (a : CacheAns) (new : List Standing) → AbsentStep id moment (op.Put key value) old a new → FirstOrFull id moment key value old a new
 absent-put id moment key value old (ans.Found v) new h = absurd h
 absent-put id moment key value old ans.Absent new h = absurd h
 absent-put id moment key value old (ans.Fresh b) new h = inl (b, (refl, h))
@@ -106,19 +118,7 @@ absent-once id moment op.Flush old a b new other h g =
     let x = absent-flush id moment old a new h in
     let y = absent-flush id moment old b other g in
     (x.0 ∙ sym y.0, x.1 ∙ sym y.1)
-absent-once id moment (op.Put key value) old a b new other h g = by (absent-put id moment key value old a new h) (absent-put id moment key value old b other g)
-  where
-    By : CacheAns → List Standing → Type 0
-    By a new = ((fresh : Bool) × ((a ≡ ans.Fresh fresh) × PutsFirst id moment key value fresh old new)) ⊎ ((a ≡ ans.Full) × ((most_caches ≤ length old) × (new ≡ old)))
-
-    by : By a new → By b other → (a ≡ b) × (new ≡ other)
-    unfolding By
-    by (inl x) (inl y) =
-        let l = puts-once (row_size id) id.kind moment key value [] x.0 y.0 x.1.1.rows y.1.1.rows tt x.1.1.puts y.1.1.puts in
-        (x.1.0 ∙ (ap ans.Fresh l.0 ∙ sym y.1.0), x.1.1.new_is ∙ (ap (λ z. old ++ record { id = id; rows = z } ∷ []) l.1 ∙ sym y.1.1.new_is))
-    by (inl x) (inr y) = let r = x.1.1.room in let s = y.1.0 in absurd (omega (arith, r, s))
-    by (inr x) (inl y) = let r = y.1.1.room in let s = x.1.0 in absurd (omega (arith, r, s))
-    by (inr x) (inr y) = (x.0 ∙ sym y.0, x.1.1 ∙ sym y.1.1)
+absent-once id moment (op.Put key value) old a b new other h g = puts-first-once id moment key value old a b new other (absent-put id moment key value old a new h) (absent-put id moment key value old b other g)
 
 op-once : (id : CacheId) (moment : ℕ) (call : CacheOp) (group : Group) (a b : CacheAns) (new other : List Standing) → IsApart group → OpStep id moment call group.caches a new → OpStep id moment call group.caches b other → (a ≡ b) × (new ≡ other)
 op-once id moment call group a b new other d (inl x) (inl y) =

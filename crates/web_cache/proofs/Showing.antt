@@ -1,18 +1,20 @@
 -- What the calls on rows of pickles make of the rows of data that they show.
-use Rattle.std.proofs.Common.{◌≡◌, ℕ, ◌+◌, List, [], ◌∷◌, ◌++◌, map, filter, Bool, true, false, cond, nat_le, nat_lt, Option, Some, None, Result, Ok, Err, IfOk, refl, ap, sym, ◌∙◌, subst}
+use Rattle.std.proofs.Common.{◌≡◌, ℕ, ◌+◌, List, [], ◌∷◌, ◌++◌, map, filter, Bool, true, false, cond, nat_le, nat_lt, Option, Some, None, Result, Ok, Err, IfOk, OnErr, refl, ap, sym, ◌∙◌, subst}
 use Rattle.std.specs.List.{AllByRecursion}
 use Rattle.sml_syntax.specs.declared.datum.Datum.{Datum}
 use Rattle.sml_syntax.specs.declared.cache.Kind.{Kind}
 use Rattle.sml_syntax.specs.declared.cache.CacheId.{CacheId}
+use Rattle.sml_syntax.specs.declared.cache.CacheOp.{CacheOp}
 use Rattle.sml_syntax.specs.declared.cache.CacheOp.TheVariants as op
+use Rattle.sml_syntax.specs.declared.cache.CacheAns.{CacheAns}
 use Rattle.sml_syntax.specs.declared.cache.CacheAns.TheVariants as ans
 use Rattle.sml_syntax.specs.Data.{has_desc}
 use Rattle.sml_syntax.specs.Pickles.{pickle, IsPickle}
-use Rattle.cache_rows.specs.RowMachine.{PickleRow, NoneNamed, Looks, Finds, Misses, Puts, Foretells, LeavesOut, TakesOut, key_of, used, stays, current, sizes, sizes_from, pickle_size, kept, settled, new_row}
+use Rattle.cache_rows.specs.RowMachine.{PickleRow, CacheRows, flushed, NoneNamed, Looks, Finds, Misses, Puts, Foretells, LeavesOut, TakesOut, key_of, used, stays, current, sizes, sizes_from, pickle_size, kept, settled, new_row}
 use Rattle.cache_rows.proofs.Lists.{all-append, all-left, all-right, all-filter}
 use Rattle.value_pickle.proofs.OneForm.{equal_pickles}
 use Rattle.web_cache.specs.CacheMachine.{DataRow, RowsStep, row_size}
-use Rattle.web_cache.specs.Shown.{Shown, IsOf, AllOf, LooksAs, PutsAs, Reads, found, pickled, same_rows}
+use Rattle.web_cache.specs.Shown.{Kept, Shown, IsOf, AllOf, LooksAs, PutsAs, Reads, found, pickled, same_rows}
 
 -- a front of a list of images, an image and what follows come from such parts of the list
 record Parts {A B : Type 0} (f : A → B) (xs : List A) (before : List B) (y : B) (after : List B) : Type 0 where
@@ -247,3 +249,43 @@ module _ (id : CacheId) (old new : List PickleRow) (s : Shown id old) (t : Shown
 pub if_ok : {A E : Type 0} (r : Result A E) (P Q : A → Type 0) → ((a : A) → P a → Q a) → IfOk r P → IfOk r Q
 if_ok (Ok a) P Q f h = f a h
 if_ok (Err e) P Q f h = tt
+
+-- Rows that a lookup and an insert make show rows of data.
+pub look-shown : {E : Type 0} (r : Result (Option Datum) E) (id : CacheId) (moment : ℕ) (key : Datum) (old new : CacheRows) → IfOk r (λ answer. LooksAs id moment key old.rows answer new.rows) → OnErr r (new ≡ old) → Shown id old.rows → Shown id new.rows
+look-shown (Ok a) id moment key old new h e s = (h s).0
+look-shown (Err x) id moment key old new h e s = subst (λ (z : CacheRows). Shown id z.rows) (sym e) s
+
+pub put-shown : {E : Type 0} (r : Result Bool E) (id : CacheId) (moment : ℕ) (key value : Datum) (old new : CacheRows) → IfOk r (λ fresh. PutsAs id moment key value old.rows fresh new.rows) → OnErr r (new ≡ old) → Shown id old.rows → Shown id new.rows
+put-shown (Ok a) id moment key value old new h e s = (h s).0
+put-shown (Err x) id moment key value old new h e s = subst (λ (z : CacheRows). Shown id z.rows) (sym e) s
+
+-- what is shown, with the id and the last moment
+abbrev pub kept-of-rows : (id : CacheId) (rows : CacheRows) → Shown id rows.rows → Kept
+kept-of-rows id rows s = record { id = id; rows = s.0; last = rows.last }
+
+pub made : (id i : CacheId) (rows : CacheRows) (s : Shown id rows.rows) → id ≡ i → rows.rows ≡ [] → rows.last ≡ 0 → kept-of-rows id rows s ≡ record { id = i; rows = []; last = 0 }
+made id i rows s e f g = let n = same_rows id s.0 [] s.1.0 tt (sym s.1.1 ∙ f) in λ j. record { id = e j; rows = n j; last = g j }
+
+pub unchanged : (id : CacheId) (old new : CacheRows) (s : Shown id old.rows) (t : Shown id new.rows) (cache : Kept) → kept-of-rows id old s ≡ cache → new ≡ old → kept-of-rows id new t ≡ cache
+unchanged id old new s t cache v e = let n = same_rows id t.0 s.0 t.1.0 s.1.0 (sym t.1.1 ∙ (ap (λ (z : CacheRows). z.rows) e ∙ s.1.1)) in (λ j. record { id = id; rows = n j; last = (e j).last }) ∙ v
+
+pub on-err : {A E : Type 0} (r : Result A E) (P : Type 0) → P → OnErr r P
+on-err (Ok a) P h = tt
+on-err (Err x) P h = h
+
+-- what a lookup, an insert and a flush that were made are to the cache
+pub look-step : (id : CacheId) (old new : CacheRows) (s : Shown id old.rows) (t : Shown id new.rows) (moment : ℕ) (key : Datum) (call : CacheOp) (answer : Option Datum) (r : CacheAns) (cache : Kept) → call ≡ op.Look key → kept-of-rows id old s ≡ cache → r ≡ found answer → LooksAs id moment key old.rows answer new.rows → RowsStep cache.id moment call cache.rows r t.0
+look-step id old new s t moment key call answer r cache e v f h =
+    subst (λ (z : Kept). RowsStep z.id moment call z.rows r t.0) v
+    (subst (λ z. RowsStep id moment z s.0 r t.0) (sym e)
+    (subst (λ z. RowsStep id moment (op.Look key) s.0 z t.0) (sym f) (looks-from id old.rows new.rows s t moment key answer h)))
+
+pub put-step : (id : CacheId) (old new : CacheRows) (s : Shown id old.rows) (t : Shown id new.rows) (moment : ℕ) (key value : Datum) (call : CacheOp) (fresh : Bool) (cache : Kept) → call ≡ op.Put key value → kept-of-rows id old s ≡ cache → PutsAs id moment key value old.rows fresh new.rows → RowsStep cache.id moment call cache.rows (ans.Fresh fresh) t.0
+put-step id old new s t moment key value call fresh cache e v h =
+    subst (λ (z : Kept). RowsStep z.id moment call z.rows (ans.Fresh fresh) t.0) v
+    (subst (λ z. RowsStep id moment z s.0 (ans.Fresh fresh) t.0) (sym e) (puts-from id old.rows new.rows s t moment key value fresh h))
+
+pub flush-step : (id : CacheId) (old new : CacheRows) (s : Shown id old.rows) (t : Shown id new.rows) (moment : ℕ) (call : CacheOp) (cache : Kept) → call ≡ op.Flush → kept-of-rows id old s ≡ cache → new ≡ flushed old → RowsStep cache.id moment call cache.rows ans.Flushed t.0
+flush-step id old new s t moment call cache e v h =
+    subst (λ (z : Kept). RowsStep z.id moment call z.rows ans.Flushed t.0) v
+    (subst (λ z. RowsStep id moment z s.0 ans.Flushed t.0) (sym e) (none-from id old.rows new.rows s t (ap (λ (z : CacheRows). z.rows) h)))

@@ -8,6 +8,7 @@
 mod caches;
 mod fitting;
 mod group;
+mod same;
 mod standing;
 
 pub use caches::Caches;

@@ -6,6 +6,7 @@ ghost use Rattle.sml_syntax.specs.Data.{has_desc};
 ghost use Rattle.web_cache.specs.CacheMachine.{RowsStep};
 ghost use Rattle.web_cache.specs.Shown.{Shown, LooksAs, PutsAs, Reads, found, shown_once};
 
+use crate::same::same_cache;
 use cache_rows::{RowStore, Rows};
 use sml_syntax::{CacheAns, CacheId, CacheOp, Datum, Desc, NoMemory, Text};
 use std::alloc::Global;
@@ -49,7 +50,7 @@ impl StandingCache {
     pub fn is(&self, id: &CacheId) -> bool
         ensures { IsTrue result ↔ (self.now.id ≡ id.now) }
     {
-        self.id == *id
+        same_cache(&self.id, id)
     }
 
     /// Does what an operation does with the rows.
