@@ -65,7 +65,6 @@ first-insert id moment key value xs cache ans.Full room same step ys e = absurd 
 pub full : (xs : List Kept) → 64 ≤ length xs → most_caches ≤ length (map standing_of xs)
 full xs h = let n = length-standing xs in omega (arith, n, h)
 
-
 length-with : {A : Type 0} (before : List A) (x y : A) (after : List A) → length (before ++ x ∷ after) ≡ length (before ++ y ∷ after)
 length-with [] x y after = refl
 length-with (b ∷ before) x y after = let h = length-with before x y after in omega (arith, h)

@@ -3,3 +3,4 @@ pub mod Showing
 pub mod Grouping
 pub mod Naming
 pub mod OneAnswer
+pub mod StayApart

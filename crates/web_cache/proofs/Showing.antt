@@ -157,8 +157,7 @@ module _ (id : CacheId) where
         let p = p f.before f.row f.after f.found.whole f.found.named in
         let i = item-of f.before f.row f.after f.found.whole f.found.named in
         let touched = used id.kind.used moment p.item in
-        let row_is : used id.kind.used moment f.row ≡ show touched = ap (used id.kind.used moment) p.item_is ∙ used-shown id.kind.used moment p.item in
-        (
+        let row_is : used id.kind.used moment f.row ≡ show touched = ap (used id.kind.used moment) p.item_is ∙ used-shown id.kind.used moment p.item in (
           (
             p.front ++ touched ∷ p.back,
             (
@@ -180,8 +179,7 @@ module _ (id : CacheId) where
     left-out : (fresh : Bool) (rest : List PickleRow) → LeavesOut (pickle id.key key) (current id.kind.time moment old) fresh rest → (these : List DataRow) × (LeavesOut key alive fresh these × (AllOf id these × (rest ≡ map show these)))
     left-out true rest l = (alive, ((none-shown key alive (subst (NoneNamed key_of (pickle id.key key)) alive-shown l.0), refl), (alive-of, l.1 ∙ alive-shown)))
     left-out false rest l =
-        let p = p l.before l.row l.after l.found.whole l.found.named in
-        (
+        let p = p l.before l.row l.after l.found.whole l.found.named in (
           p.front ++ p.back,
           (
             record { before = p.front; row = p.item; after = p.back; found = record { whole = p.whole; named = item-named l.before l.row l.after l.found.whole l.found.named }; rest_is = refl },
@@ -195,8 +193,7 @@ module _ (id : CacheId) where
     puts : (value : Datum) → has_desc id.value value ≡ true → (fresh : Bool) (new : List PickleRow) → Puts pickle_size id.kind moment (pickle id.key key) (pickle id.value value) old fresh new → (t : Shown id new) × Puts (row_size id) id.kind moment key value s.0 fresh t.0
     puts value value_fits fresh new h =
         let l = left-out fresh h.rest h.left_out in
-        let r = new_row key value moment in
-        (
+        let r = new_row key value moment in (
           (
             settled (row_size id) id.kind.size l.0 r,
             (

@@ -8,9 +8,11 @@
 mod caches;
 mod fitting;
 mod group;
+mod laws;
 mod same;
 mod standing;
 
 pub use caches::Caches;
 pub use fitting::call_fits;
 pub use group::{CacheGroup, group_of};
+pub use laws::{a_call_has_one_answer, caches_stay_apart};

@@ -45,9 +45,12 @@ fn same_desc(a: &Desc, b: &Desc) -> bool
         (Desc::Char, Desc::Char) => true,
         (Desc::Str, Desc::Str) => true,
         (Desc::Unit, Desc::Unit) => true,
-        (Desc::Pair(a, b), Desc::Pair(x, y)) => same_desc(a.get(), x.get()) && same_desc(b.get(), y.get()),
+        (Desc::Pair(a, b), Desc::Pair(x, y)) => same_desc(a.get(), x.get())
+            && same_desc(b.get(), y.get()),
         (Desc::Triple(a, b, c), Desc::Triple(x, y, z)) => {
-            same_desc(a.get(), x.get()) && same_desc(b.get(), y.get()) && same_desc(c.get(), z.get())
+            same_desc(a.get(), x.get())
+                && same_desc(b.get(), y.get())
+                && same_desc(c.get(), z.get())
         }
         (Desc::Opt(a), Desc::Opt(x)) => same_desc(a.get(), x.get()),
         (Desc::List(a), Desc::List(x)) => same_desc(a.get(), x.get()),
