@@ -1,6 +1,5 @@
 -- What a call on one of the caches of a group makes of them all.
-use Rattle.std.proofs.Common.{◌≡◌, ◌⊎◌, inl, ℕ, ◌<◌, ◌≤◌, List, [], ◌∷◌, ◌++◌, map, length, slice_get, slice_set, get_or, Bool, Some, Result, IfOk, refl, ap, sym, ◌∙◌, subst, arith}
-use Rattle.std.specs.List.{AllByRecursion}
+use Rattle.std.proofs.Common.{◌≡◌, inl, ℕ, ◌<◌, ◌≤◌, List, [], ◌∷◌, ◌++◌, map, length, slice_get, slice_set, get_or, Some, Result, IfOk, refl, ap, sym, ◌∙◌, subst, arith}
 use Rattle.std.proofs.lemmas.Option.{get_or_from_slice_get}
 use Rattle.sml_syntax.specs.declared.datum.Datum.{Datum}
 use Rattle.sml_syntax.specs.declared.cache.CacheId.{CacheId}
@@ -9,7 +8,7 @@ use Rattle.sml_syntax.specs.declared.cache.CacheOp.TheVariants as op
 use Rattle.sml_syntax.specs.declared.cache.CacheAns.{CacheAns}
 use Rattle.sml_syntax.specs.declared.cache.CacheAns.TheVariants as ans
 use Rattle.cache_rows.proofs.Lists.{At, at-place, all-append, all-left, all-right, all-weaker}
-use Rattle.web_cache.specs.CacheMachine.{Standing, OpStep, AbsentStep, RowsStep, most_caches}
+use Rattle.web_cache.specs.CacheMachine.{OpStep, AbsentStep, RowsStep, most_caches}
 use Rattle.web_cache.specs.Shown.{Kept, IsBy, standing_of}
 use Rattle.web_cache.proofs.Showing.{images, if_ok}
 

@@ -10,8 +10,8 @@ use Rattle.sml_syntax.specs.declared.cache.CacheAns.{CacheAns}
 use Rattle.sml_syntax.specs.declared.cache.CacheAns.TheVariants as ans
 use Rattle.std.specs.List.{AllByRecursion}
 use Rattle.cache_rows.specs.RowMachine.{Looks, Puts, LeavesOut, key_of, used, stays, current, settled, new_row}
-use Rattle.cache_rows.proofs.Lists.{all-left, all-right, at-place}
-use Rattle.web_cache.specs.CacheMachine.{DataRow, Standing, Group, RowsStep, PutsFirst, AbsentStep, OpStep, GroupStep, CacheStep, most_caches, id_of, group_number, row_size}
+use Rattle.cache_rows.proofs.Lists.{all-right, at-place}
+use Rattle.web_cache.specs.CacheMachine.{DataRow, Standing, Group, RowsStep, PutsFirst, AbsentStep, OpStep, GroupStep, most_caches, id_of, group_number, row_size}
 use Rattle.web_cache.specs.Shown.{found}
 use Rattle.web_cache.specs.Apart.{Apart, KeysApart, IsApart, AreApart, OneAnswer}
 use Rattle.web_cache.proofs.Naming.{named-once, named-none, apart-filter}

@@ -1,6 +1,5 @@
 -- What the calls on rows of pickles make of the rows of data that they show.
 use Rattle.std.proofs.Common.{◌≡◌, ℕ, ◌+◌, List, [], ◌∷◌, ◌++◌, map, filter, Bool, true, false, cond, nat_le, nat_lt, Option, Some, None, Result, Ok, Err, IfOk, OnErr, refl, ap, sym, ◌∙◌, subst}
-use Rattle.std.specs.List.{AllByRecursion}
 use Rattle.sml_syntax.specs.declared.datum.Datum.{Datum}
 use Rattle.sml_syntax.specs.declared.cache.Kind.{Kind}
 use Rattle.sml_syntax.specs.declared.cache.CacheId.{CacheId}
@@ -10,7 +9,7 @@ use Rattle.sml_syntax.specs.declared.cache.CacheAns.{CacheAns}
 use Rattle.sml_syntax.specs.declared.cache.CacheAns.TheVariants as ans
 use Rattle.sml_syntax.specs.Data.{has_desc}
 use Rattle.sml_syntax.specs.Pickles.{pickle, IsPickle}
-use Rattle.cache_rows.specs.RowMachine.{PickleRow, CacheRows, flushed, NoneNamed, Looks, Finds, Misses, Puts, Foretells, LeavesOut, TakesOut, key_of, used, stays, current, sizes, sizes_from, pickle_size, kept, settled, new_row}
+use Rattle.cache_rows.specs.RowMachine.{PickleRow, CacheRows, flushed, NoneNamed, Looks, Finds, Misses, Puts, Foretells, LeavesOut, key_of, used, stays, current, sizes, sizes_from, pickle_size, kept, settled, new_row}
 use Rattle.cache_rows.proofs.Lists.{all-append, all-left, all-right, all-filter}
 use Rattle.value_pickle.proofs.OneForm.{equal_pickles}
 use Rattle.web_cache.specs.CacheMachine.{DataRow, RowsStep, row_size}

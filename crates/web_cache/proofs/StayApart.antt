@@ -10,7 +10,7 @@ use Rattle.sml_syntax.specs.declared.cache.CacheOp.TheVariants as op
 use Rattle.sml_syntax.specs.declared.cache.CacheAns.{CacheAns}
 use Rattle.cache_rows.specs.RowMachine.{NoneNamed, Looks, Puts, LeavesOut, key_of, used, stays, current, sizes_from, kept, settled, new_row}
 use Rattle.cache_rows.proofs.Lists.{all-append, all-left, all-right, at-place}
-use Rattle.web_cache.specs.CacheMachine.{DataRow, Standing, Group, RowsStep, AbsentStep, OpStep, GroupStep, CacheStep, id_of, group_number, new_groups, row_size}
+use Rattle.web_cache.specs.CacheMachine.{DataRow, Standing, Group, RowsStep, AbsentStep, OpStep, GroupStep, id_of, group_number, new_groups, row_size}
 use Rattle.web_cache.specs.Apart.{Apart, KeysApart, IsApart, AreApart, StayApart}
 use Rattle.web_cache.proofs.Naming.{apart-filter, apart-with, apart-without, apart-last, none-other}
 use Rattle.web_cache.proofs.OneAnswer.{look-answer, put-answer, flush-answer, absent-look, absent-put, absent-flush, FirstOrFull}

@@ -1,6 +1,6 @@
 -- The cache machine over data: sixteen groups, each with its last moment and the caches that stand in it, each with its rows
 -- in the order of birth; what a call answers and makes of them at a moment.
-use Rattle.std.specs.Prelude.{◌≡◌, ◌⊎◌, ℕ, zero, suc, ◌+◌, ◌%◌, ◌≤◌, ◌<◌, List, [], ◌∷◌, ◌++◌, length, sum, Bool, true, Option, Some, None, slice_get, slice_set}
+use Rattle.std.specs.Prelude.{◌≡◌, ◌⊎◌, ℕ, zero, suc, ◌+◌, ◌%◌, ◌≤◌, ◌<◌, List, [], ◌∷◌, ◌++◌, length, sum, Bool, Option, Some, None, slice_get, slice_set}
 use Rattle.sml_syntax.specs.declared.datum.Datum.{Datum}
 use Rattle.sml_syntax.specs.declared.cache.CacheId.{CacheId}
 use Rattle.sml_syntax.specs.declared.cache.CacheOp.{CacheOp}

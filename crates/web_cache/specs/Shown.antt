@@ -11,7 +11,6 @@ use Rattle.sml_syntax.specs.declared.cache.CacheAns.{CacheAns}
 use Rattle.sml_syntax.specs.declared.cache.CacheAns.TheVariants as ans
 use Rattle.sml_syntax.specs.Data.{has_desc}
 use Rattle.sml_syntax.specs.Pickles.{pickle, IsPickle}
-use Rattle.cache_rows.specs.declared.row.Row.{Row}
 use Rattle.cache_rows.specs.RowMachine.{PickleRow, Looks, Puts}
 use Rattle.value_pickle.proofs.OneForm.{equal_pickles}
 use Rattle.web_cache.specs.CacheMachine.{DataRow, Standing, row_size}
