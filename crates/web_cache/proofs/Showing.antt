@@ -238,9 +238,6 @@ module _ (id : CacheId) (old new : List PickleRow) (s : Shown id old) (t : Shown
   pub none-from : new ≡ [] → t.0 ≡ []
   none-from e = same_rows id t.0 [] t.1.0 tt (sym t.1.1 ∙ e)
 
-  pub same-from : new ≡ old → t.0 ≡ s.0
-  same-from e = same_rows id t.0 s.0 t.1.0 s.1.0 (sym t.1.1 ∙ (e ∙ s.1.1))
-
 -- what holds of an Ok makes something else hold of it
 pub if_ok : {A E : Type 0} (r : Result A E) (P Q : A → Type 0) → ((a : A) → P a → Q a) → IfOk r P → IfOk r Q
 if_ok (Ok a) P Q f h = f a h

@@ -68,10 +68,6 @@ all_of_once id (x ∷ xs) = ×_prop (×_prop (Coded-set coded_bool (has_desc id.
 pub shown_once : (id : CacheId) (rows : List PickleRow) → IsProp (Shown id rows)
 shown_once id rows s t = Σ_prop_path (λ (these : List DataRow). ×_prop (all_of_once id these) (Coded-set (coded_list row_code) rows (map (pickled id) these))) (same_rows id s.0 t.0 s.1.0 t.1.0 (sym s.1.1 ∙ t.1.1))
 
--- no rows show no rows
-pub shown_none : (id : CacheId) → Shown id []
-shown_none id = ([], (tt, refl))
-
 -- a cache that stands, with its last moment
 pub record Kept : Type 0 where
   pub id : CacheId
