@@ -4,5 +4,6 @@ pub mod Listing
 pub mod Places
 pub mod Indexing
 pub mod Tabling
+pub mod Foretelling
 pub mod Settling
 pub mod Calling

@@ -99,6 +99,10 @@ module _ {K V : Type 0} (size : K → V → ℕ) where
     pub left_out : LeavesOut key (current kind.time moment old) fresh rest
     pub rows : new ≡ settled kind.size rest (new_row key value moment)
 
+-- a lookup at a moment answers this
+abbrev pub Foretells : {K V : Type 0} → Kind → ℕ → K → List (Row K V) → Option V → Type 0
+Foretells {K = K} {V = V} kind moment key rows answer = (told : Option V) (new : List (Row K V)) → Looks kind moment key rows told new → told ≡ answer
+
 -- a row of pickles
 abbrev pub PickleRow : Type 0
 PickleRow = Row (List ℕ) (List ℕ)

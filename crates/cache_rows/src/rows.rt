@@ -1,6 +1,7 @@
 // The rows in maps.
 ghost use Rattle.std.specs.Prelude.{◌≡◌, ℕ, [], ◌∷◌, ◌++◌, List, IfOk, OnErr};
-ghost use Rattle.cache_rows.specs.RowMachine.{Looks, Puts, PickleRow, LeavesOut, current, new_row, pickle_size, kept};
+ghost use Rattle.std.specs.Option.{option_map};
+ghost use Rattle.cache_rows.specs.RowMachine.{Foretells, Looks, Puts, PickleRow, LeavesOut, current, new_row, pickle_size, kept};
 
 use crate::row::stays;
 use crate::row_store::RowStore;
@@ -37,6 +38,13 @@ impl Rows {
             last: 0,
             alloc,
         })
+    }
+
+    /// The value that a lookup at a moment answers. No row changes.
+    pub fn peek(&self, now: u64, key: &Text) -> Option<&Text>
+        ensures { Foretells self.now.kind now key.now self.now.rows (option_map (λ v. v.now) result) }
+    {
+        self.table.peek(self.kind, now, key)
     }
 }
 

@@ -1,6 +1,7 @@
 // Rows by their keys and by the order in which they leave.
 ghost use Rattle.std.specs.Prelude.{◌≡◌, ◌-◌, ◌^◌, ℕ, [], List, min, IfOk, OnErr, IsTrue, IsFalse};
-ghost use Rattle.cache_rows.specs.RowMachine.{PickleRow, LeavesOut, key_of, sizes, pickle_size, current};
+ghost use Rattle.std.specs.Option.{option_map};
+ghost use Rattle.cache_rows.specs.RowMachine.{PickleRow, Foretells, LeavesOut, key_of, sizes, pickle_size, current};
 ghost use Rattle.cache_rows.specs.Indexed.{Answers, Replaces, Restamps, LeavesFirst, rows_of};
 
 use crate::row::stays;
@@ -88,6 +89,19 @@ impl Table {
             self.order.remove(&(stamp, birth));
         }
         Ok(Some(value))
+    }
+
+    /// The value of the key's row, where it stays.
+    pub fn peek(&self, kind: Kind, now: u64, key: &Text) -> Option<&Text>
+        ensures { Foretells kind now key.now self.now (option_map (λ v. v.now) result) }
+    {
+        let Some(cell) = self.rows.get(key.as_bytes()) else {
+            return None;
+        };
+        if !stays(kind.time, now, cell.stamp) {
+            return None;
+        }
+        Some(&cell.value)
     }
 
     /// Puts a row last in the place of the key's row, and answers the stamp of that row.

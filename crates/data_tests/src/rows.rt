@@ -130,6 +130,30 @@ fn answers_alike(rt: HostRuntime) {
     }
 }
 
+#[test]
+fn peeks(rt: HostRuntime) {
+    let kind = Kind {
+        used: true,
+        time: Some(10),
+        size: None,
+    };
+    let mut rows = Rows::make(rt.alloc(), kind).expect(&rt, "memory");
+    let key = text(&rt, "a");
+    assert!(rt; !is_seen(&rt, &rows, 100, &key));
+    assert!(rt; rows.last() <= 100);
+    assert!(rt; rows.put(100, &key, &text(&rt, "x")) == Ok(true));
+    assert!(rt; is_seen(&rt, &rows, 109, &key));
+    assert!(rt; !is_seen(&rt, &rows, 110, &key));
+    assert_eq!(rt; rows.last(), 100);
+}
+
+fn is_seen(rt: &(impl Abort + AllocGlobal), rows: &Rows, now: u64, key: &Text) -> bool {
+    match rows.peek(now, key) {
+        Some(value) => *value == text(rt, "x"),
+        None => false,
+    }
+}
+
 fn both_keep_to(rt: &(impl Abort + AllocGlobal), kind: Kind, steps: &[Step]) {
     let mut list = ListRows::make(rt.alloc(), kind).expect(rt, "memory");
     keep_to(rt, &mut list, steps);

@@ -1,0 +1,5 @@
+pub mod CacheMachine
+pub mod SameCache
+pub mod Shown
+pub mod Codes
+pub mod Apart
