@@ -1,0 +1,5 @@
+pub mod PerKey
+pub mod Objects
+pub mod Fitting
+pub mod Books
+pub mod Handles
