@@ -3,3 +3,4 @@ pub mod Objects
 pub mod Fitting
 pub mod Books
 pub mod Handles
+pub mod Whole

@@ -4,3 +4,4 @@ pub mod Calling
 pub mod Book
 pub mod Fitting
 pub mod Codes
+pub mod Core
