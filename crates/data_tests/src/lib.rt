@@ -28,3 +28,5 @@ mod statements;
 mod tests;
 #[cfg(test)]
 mod values;
+#[cfg(test)]
+mod web_caches;

@@ -138,12 +138,20 @@ fn peeks(rt: HostRuntime) {
         size: None,
     };
     let mut rows = Rows::make(rt.alloc(), kind).expect(&rt, "memory");
-    let (key, value) = (text(&rt, "a"), text(&rt, "x"));
-    assert!(rt; rows.peek(100, &key) == None);
-    assert!(rt; rows.put(100, &key, &value) == Ok(true));
-    assert!(rt; rows.peek(109, &key) == Some(&value));
-    assert!(rt; rows.peek(110, &key) == None);
-    assert!(rt; rows.look(109, &key) == Ok(Some(value)));
+    let key = text(&rt, "a");
+    assert!(rt; !is_seen(&rt, &rows, 100, &key));
+    assert!(rt; rows.last() <= 100);
+    assert!(rt; rows.put(100, &key, &text(&rt, "x")) == Ok(true));
+    assert!(rt; is_seen(&rt, &rows, 109, &key));
+    assert!(rt; !is_seen(&rt, &rows, 110, &key));
+    assert_eq!(rt; rows.last(), 100);
+}
+
+fn is_seen(rt: &(impl Abort + AllocGlobal), rows: &Rows, now: u64, key: &Text) -> bool {
+    match rows.peek(now, key) {
+        Some(value) => *value == text(rt, "x"),
+        None => false,
+    }
 }
 
 fn both_keep_to(rt: &(impl Abort + AllocGlobal), kind: Kind, steps: &[Step]) {
