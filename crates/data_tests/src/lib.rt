@@ -5,8 +5,6 @@
 #[cfg(test)]
 mod answers;
 #[cfg(test)]
-mod books;
-#[cfg(test)]
 mod calls;
 #[cfg(test)]
 mod copied;
