@@ -1,7 +1,7 @@
 // Database commands, and all calls that a script makes.
 ghost use Rattle.std.specs.Prelude.{◌≡◌, IfOk};
 
-use crate::copy::copy_text_rows;
+use crate::copy::Copied;
 use crate::{CacheAns, CacheCall, Listed, NoMemory, Text};
 use std::alloc::Global;
 
@@ -59,7 +59,7 @@ impl DbAns {
     {
         match self {
             DbAns::Done => Ok(DbAns::Done),
-            DbAns::Rows(rows) => Ok(DbAns::Rows(copy_text_rows(alloc, rows)?)),
+            DbAns::Rows(rows) => Ok(DbAns::Rows(rows.copied(alloc)?)),
             DbAns::NoTable => Ok(DbAns::NoTable),
             DbAns::TableStands => Ok(DbAns::TableStands),
             DbAns::KeyStands => Ok(DbAns::KeyStands),

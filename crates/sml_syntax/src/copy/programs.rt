@@ -1,8 +1,10 @@
 // Copies of expressions and declarations.
 ghost use Rattle.std.specs.Prelude.{◌≡◌, IfOk};
 
-use super::bindings::{copy_abbreviations, copy_constructors, copy_datatypes};
-use crate::{Boxed, Dec, DecForm, Exp, ExpForm, Listed, NoMemory, Piece, Program, Rule};
+use super::copied::Copied;
+use crate::{
+    Boxed, Dec, DecForm, Exp, ExpForm, Listed, NoMemory, Piece, Program, Rule, Text,
+};
 use std::alloc::Global;
 
 impl Program {
@@ -116,17 +118,10 @@ impl DecForm {
                 }
                 Ok(DecForm::Val(Listed::of(copies)))
             }
-            DecForm::ValRec(binds) => {
-                let mut copies = Vec::new(alloc);
-                for bind in binds.as_slice() {
-                    let name = bind.0.try_copy(alloc)?;
-                    copies.push((name, copy_rules(alloc, &bind.1)?))?;
-                }
-                Ok(DecForm::ValRec(Listed::of(copies)))
-            }
-            DecForm::Abbrev(binds) => Ok(DecForm::Abbrev(copy_abbreviations(alloc, binds)?)),
-            DecForm::DataDef(binds) => Ok(DecForm::DataDef(copy_datatypes(alloc, binds)?)),
-            DecForm::ExnDef(binds) => Ok(DecForm::ExnDef(copy_constructors(alloc, binds)?)),
+            DecForm::ValRec(binds) => Ok(DecForm::ValRec(copy_functions(alloc, binds)?)),
+            DecForm::Abbrev(binds) => Ok(DecForm::Abbrev(binds.copied(alloc)?)),
+            DecForm::DataDef(binds) => Ok(DecForm::DataDef(binds.copied(alloc)?)),
+            DecForm::ExnDef(binds) => Ok(DecForm::ExnDef(binds.copied(alloc)?)),
             DecForm::Local(hidden, shown) => {
                 let hidden = copy_decs(alloc, hidden)?;
                 Ok(DecForm::Local(hidden, copy_decs(alloc, shown)?))
@@ -182,6 +177,22 @@ fn copy_decs(alloc: Global, decs: &Listed<Dec>) -> Result<Listed<Dec>, NoMemory>
     let mut copies = Vec::new(alloc);
     for dec in decs.as_slice() {
         copies.push(dec.try_copy(alloc)?)?;
+    }
+    Ok(Listed::of(copies))
+}
+
+/// The functions of one declaration.
+#[cycle(program_copies)]
+pub(crate) fn copy_functions(
+    alloc: Global,
+    functions: &Listed<(Text, Listed<Rule>)>,
+) -> Result<Listed<(Text, Listed<Rule>)>, NoMemory>
+    ensures { IfOk result (λ copy. copy ≡ functions.now) }
+{
+    let mut copies = Vec::new(alloc);
+    for function in functions.as_slice() {
+        let name = function.0.try_copy(alloc)?;
+        copies.push((name, copy_rules(alloc, &function.1)?))?;
     }
     Ok(Listed::of(copies))
 }

@@ -1,8 +1,8 @@
 // Copies of values.
 ghost use Rattle.std.specs.Prelude.{◌≡◌, IfOk};
 
-use super::programs::copy_rules;
-use crate::{Bound, Boxed, Closure, Listed, NoMemory, Rule, Text, Value};
+use super::programs::{copy_functions, copy_rules};
+use crate::{Bound, Boxed, Closure, Listed, NoMemory, Text, Value};
 use std::alloc::Global;
 
 impl Value {
@@ -44,7 +44,7 @@ impl Closure {
         Ok(Closure {
             rules: copy_rules(alloc, &self.rules)?,
             env: copy_environment(alloc, &self.env)?,
-            group: copy_group(alloc, &self.group)?,
+            group: copy_functions(alloc, &self.group)?,
         })
     }
 }
@@ -97,21 +97,6 @@ fn copy_environment(
     for entry in names.as_slice() {
         let name = entry.0.try_copy(alloc)?;
         copies.push((name, entry.1.try_copy(alloc)?))?;
-    }
-    Ok(Listed::of(copies))
-}
-
-/// The functions of a closure's own declaration.
-fn copy_group(
-    alloc: Global,
-    functions: &Listed<(Text, Listed<Rule>)>,
-) -> Result<Listed<(Text, Listed<Rule>)>, NoMemory>
-    ensures { IfOk result (λ copy. copy ≡ functions.now) }
-{
-    let mut copies = Vec::new(alloc);
-    for function in functions.as_slice() {
-        let name = function.0.try_copy(alloc)?;
-        copies.push((name, copy_rules(alloc, &function.1)?))?;
     }
     Ok(Listed::of(copies))
 }
