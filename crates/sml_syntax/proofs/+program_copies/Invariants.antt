@@ -21,6 +21,6 @@ abbrev pub invariant-tree::DecForm::try_copy-loop-bind :
     goal.invariant-tree::DecForm::try_copy-loop-bind
 invariant-tree::DecForm::try_copy-loop-bind l = l.copies.items ≡ take l.bind-index l.bind-items
 
-abbrev pub invariant-copy::programs::copy_functions-loop-function :
-    goal.invariant-copy::programs::copy_functions-loop-function
-invariant-copy::programs::copy_functions-loop-function l = l.copies.items ≡ take l.function-index l.function-items
+abbrev pub invariant-tree::DecForm::try_copy-loop-bind-2 :
+    goal.invariant-tree::DecForm::try_copy-loop-bind-2
+invariant-tree::DecForm::try_copy-loop-bind-2 l = l.copies.items ≡ take l.bind-index l.bind-items

@@ -1,10 +1,8 @@
 // Copies of expressions and declarations.
 ghost use Rattle.std.specs.Prelude.{◌≡◌, IfOk};
 
-use super::copied::Copied;
-use crate::{
-    Boxed, Dec, DecForm, Exp, ExpForm, Listed, NoMemory, Piece, Program, Rule, Text,
-};
+use super::copied::{with_pair, Copied};
+use crate::{Boxed, Dec, DecForm, Exp, ExpForm, Listed, NoMemory, Piece, Program, Rule};
 use std::alloc::Global;
 
 impl Program {
@@ -80,6 +78,12 @@ impl Rule {
     }
 }
 
+impl Copied for Rule {
+    fn copied(&self, alloc: Global) -> Result<Rule, NoMemory> {
+        self.try_copy(alloc)
+    }
+}
+
 impl Piece {
     #[cycle(program_copies)]
     pub fn try_copy(&self, alloc: Global) -> Result<Piece, NoMemory>
@@ -113,12 +117,19 @@ impl DecForm {
             DecForm::Val(binds) => {
                 let mut copies = Vec::new(alloc);
                 for bind in binds.as_slice() {
-                    let pat = bind.0.try_copy(alloc)?;
-                    copies.push((pat, bind.1.try_copy(alloc)?))?;
+                    let body = bind.1.try_copy(alloc)?;
+                    copies = with_pair(alloc, copies, &bind.0, body)?;
                 }
                 Ok(DecForm::Val(Listed::of(copies)))
             }
-            DecForm::ValRec(binds) => Ok(DecForm::ValRec(copy_functions(alloc, binds)?)),
+            DecForm::ValRec(binds) => {
+                let mut copies = Vec::new(alloc);
+                for bind in binds.as_slice() {
+                    let rules = copy_rules(alloc, &bind.1)?;
+                    copies = with_pair(alloc, copies, &bind.0, rules)?;
+                }
+                Ok(DecForm::ValRec(Listed::of(copies)))
+            }
             DecForm::Abbrev(binds) => Ok(DecForm::Abbrev(binds.copied(alloc)?)),
             DecForm::DataDef(binds) => Ok(DecForm::DataDef(binds.copied(alloc)?)),
             DecForm::ExnDef(binds) => Ok(DecForm::ExnDef(binds.copied(alloc)?)),
@@ -149,7 +160,7 @@ fn copy_exps(alloc: Global, exps: &Listed<Exp>) -> Result<Listed<Exp>, NoMemory>
 }
 
 #[cycle(program_copies)]
-pub(crate) fn copy_rules(alloc: Global, rules: &Listed<Rule>) -> Result<Listed<Rule>, NoMemory>
+fn copy_rules(alloc: Global, rules: &Listed<Rule>) -> Result<Listed<Rule>, NoMemory>
     ensures { IfOk result (λ copy. copy ≡ rules.now) }
 {
     let mut copies = Vec::new(alloc);
@@ -177,22 +188,6 @@ fn copy_decs(alloc: Global, decs: &Listed<Dec>) -> Result<Listed<Dec>, NoMemory>
     let mut copies = Vec::new(alloc);
     for dec in decs.as_slice() {
         copies.push(dec.try_copy(alloc)?)?;
-    }
-    Ok(Listed::of(copies))
-}
-
-/// The functions of one declaration.
-#[cycle(program_copies)]
-pub(crate) fn copy_functions(
-    alloc: Global,
-    functions: &Listed<(Text, Listed<Rule>)>,
-) -> Result<Listed<(Text, Listed<Rule>)>, NoMemory>
-    ensures { IfOk result (λ copy. copy ≡ functions.now) }
-{
-    let mut copies = Vec::new(alloc);
-    for function in functions.as_slice() {
-        let name = function.0.try_copy(alloc)?;
-        copies.push((name, copy_rules(alloc, &function.1)?))?;
     }
     Ok(Listed::of(copies))
 }

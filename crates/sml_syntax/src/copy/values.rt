@@ -1,7 +1,7 @@
 // Copies of values.
 ghost use Rattle.std.specs.Prelude.{◌≡◌, IfOk};
 
-use super::programs::{copy_functions, copy_rules};
+use super::copied::{with_pair, Copied};
 use crate::{Bound, Boxed, Closure, Listed, NoMemory, Text, Value};
 use std::alloc::Global;
 
@@ -42,9 +42,9 @@ impl Closure {
         ensures { IfOk result (λ copy. copy ≡ self.now) }
     {
         Ok(Closure {
-            rules: copy_rules(alloc, &self.rules)?,
+            rules: self.rules.copied(alloc)?,
             env: copy_environment(alloc, &self.env)?,
-            group: copy_functions(alloc, &self.group)?,
+            group: self.group.copied(alloc)?,
         })
     }
 }
@@ -95,8 +95,8 @@ fn copy_environment(
 {
     let mut copies = Vec::new(alloc);
     for entry in names.as_slice() {
-        let name = entry.0.try_copy(alloc)?;
-        copies.push((name, entry.1.try_copy(alloc)?))?;
+        let bound = entry.1.try_copy(alloc)?;
+        copies = with_pair(alloc, copies, &entry.0, bound)?;
     }
     Ok(Listed::of(copies))
 }
