@@ -33,16 +33,13 @@ impl<T: Copied> Copied for Option<T> {
 
 impl<A: Copied, B: Copied> Copied for (A, B) {
     fn copied(&self, alloc: Global) -> Result<(A, B), NoMemory> {
-        let first = self.0.copied(alloc)?;
-        Ok((first, self.1.copied(alloc)?))
+        copied_two(alloc, &self.0, &self.1)
     }
 }
 
 impl<A: Copied, B: Copied, C: Copied> Copied for (A, B, C) {
     fn copied(&self, alloc: Global) -> Result<(A, B, C), NoMemory> {
-        let first = self.0.copied(alloc)?;
-        let second = self.1.copied(alloc)?;
-        Ok((first, second, self.2.copied(alloc)?))
+        copied_three(alloc, &self.0, &self.1, &self.2)
     }
 }
 
@@ -54,6 +51,29 @@ impl<T: Copied> Copied for Listed<T> {
         }
         Ok(Listed::of(copies))
     }
+}
+
+pub(crate) fn copied_two<A: Copied, B: Copied>(
+    alloc: Global,
+    first: &A,
+    second: &B,
+) -> Result<(A, B), NoMemory>
+    ensures { IfOk result (λ copies. copies ≡ (first.now, second.now)) }
+{
+    let first = first.copied(alloc)?;
+    Ok((first, second.copied(alloc)?))
+}
+
+pub(crate) fn copied_three<A: Copied, B: Copied, C: Copied>(
+    alloc: Global,
+    first: &A,
+    second: &B,
+    third: &C,
+) -> Result<(A, B, C), NoMemory>
+    ensures { IfOk result (λ copies. copies ≡ (first.now, second.now, third.now)) }
+{
+    let (first, second) = copied_two(alloc, first, second)?;
+    Ok((first, second, third.copied(alloc)?))
 }
 
 /// The pairs with one more behind them, of a copy of `first` and of `second`.

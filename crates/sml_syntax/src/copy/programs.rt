@@ -1,7 +1,7 @@
 // Copies of expressions and declarations.
 ghost use Rattle.std.specs.Prelude.{◌≡◌, IfOk};
 
-use super::copied::{with_pair, Copied};
+use super::copied::{Copied, with_pair};
 use crate::{Boxed, Dec, DecForm, Exp, ExpForm, Listed, NoMemory, Piece, Program, Rule};
 use std::alloc::Global;
 

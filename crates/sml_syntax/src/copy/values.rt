@@ -1,7 +1,7 @@
 // Copies of values.
 ghost use Rattle.std.specs.Prelude.{◌≡◌, IfOk};
 
-use super::copied::{with_pair, Copied};
+use super::copied::{Copied, with_pair};
 use crate::{Bound, Boxed, Closure, Listed, NoMemory, Text, Value};
 use std::alloc::Global;
 
