@@ -6,4 +6,4 @@ mod programs;
 mod types;
 mod values;
 
-pub(crate) use copied::{Copied, copied_three, copied_two};
+pub(crate) use copied::{Copied, beside, copied_three, copied_two};

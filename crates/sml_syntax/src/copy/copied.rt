@@ -76,6 +76,18 @@ pub(crate) fn copied_three<A: Copied, B: Copied, C: Copied>(
     Ok((first, second, third.copied(alloc)?))
 }
 
+/// A copy of `first`, and `second`.
+pub(crate) fn beside<A: Copied, B: Drop>(
+    alloc: Global,
+    first: &A,
+    second: B,
+) -> Result<(A, B), NoMemory>
+    ensures { IfOk result (λ pair. pair ≡ (first.now, second)) }
+{
+    let first = first.copied(alloc)?;
+    Ok((first, second))
+}
+
 /// The pairs with one more behind them, of a copy of `first` and of `second`.
 pub(crate) fn with_pair<A: Copied, B: Drop>(
     alloc: Global,
@@ -85,7 +97,7 @@ pub(crate) fn with_pair<A: Copied, B: Drop>(
 ) -> Result<Vec<(A, B)>, NoMemory>
     ensures { IfOk result (λ longer. longer.items ≡ pairs.items ++ (first.now, second) ∷ []) }
 {
-    let first = first.copied(alloc)?;
-    pairs.push((first, second))?;
+    let pair = beside(alloc, first, second)?;
+    pairs.push(pair)?;
     Ok(pairs)
 }

@@ -1,7 +1,7 @@
 // Copies of expressions and declarations.
 ghost use Rattle.std.specs.Prelude.{◌≡◌, IfOk};
 
-use super::copied::{Copied, with_pair};
+use super::copied::{Copied, beside, with_pair};
 use crate::{Boxed, Dec, DecForm, Exp, ExpForm, Listed, NoMemory, Piece, Program, Rule};
 use std::alloc::Global;
 
@@ -71,10 +71,9 @@ impl Rule {
     pub fn try_copy(&self, alloc: Global) -> Result<Rule, NoMemory>
         ensures { IfOk result (λ copy. copy ≡ self.now) }
     {
-        Ok(Rule {
-            pat: self.pat.try_copy(alloc)?,
-            body: self.body.try_copy(alloc)?,
-        })
+        let body = self.body.try_copy(alloc)?;
+        let (pat, body) = beside(alloc, &self.pat, body)?;
+        Ok(Rule { pat, body })
     }
 }
 
