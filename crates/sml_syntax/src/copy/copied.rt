@@ -1,4 +1,4 @@
-// Copies of lists, options and pairs that hold no expression, each by the copies of its parts.
+// Copies of lists, options and pairs, each by the copies of its parts.
 ghost use Rattle.std.specs.Prelude.{◌≡◌, ◌++◌, ◌∷◌, [], IfOk};
 
 use crate::{Listed, NoMemory, Text, Ty};
