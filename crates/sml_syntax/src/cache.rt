@@ -1,6 +1,7 @@
 // Caches, and the calls on them.
 ghost use Rattle.std.specs.Prelude.{◌≡◌, IfOk};
 
+use crate::copy::{Copied, beside};
 use crate::{Datum, Desc, NoMemory, Text};
 use std::alloc::Global;
 
@@ -45,6 +46,12 @@ impl CacheId {
     }
 }
 
+impl Copied for CacheId {
+    fn copied(&self, alloc: Global) -> Result<CacheId, NoMemory> {
+        self.try_copy(alloc)
+    }
+}
+
 #[derive(Debug, PartialEq, Eq, Drop)]
 pub enum CacheOp {
     /// The key.
@@ -79,10 +86,9 @@ impl CacheCall {
     pub fn try_copy(&self, alloc: Global) -> Result<CacheCall, NoMemory>
         ensures { IfOk result (λ copy. copy ≡ self.now) }
     {
-        Ok(CacheCall {
-            id: self.id.try_copy(alloc)?,
-            op: self.op.try_copy(alloc)?,
-        })
+        let op = self.op.try_copy(alloc)?;
+        let (id, op) = beside(alloc, &self.id, op)?;
+        Ok(CacheCall { id, op })
     }
 }
 

@@ -1,7 +1,7 @@
 // Database commands, and all calls that a script makes.
 ghost use Rattle.std.specs.Prelude.{◌≡◌, IfOk};
 
-use crate::copy::copy_text_rows;
+use crate::copy::{Copied, copied_three, copied_two};
 use crate::{CacheAns, CacheCall, Listed, NoMemory, Text};
 use std::alloc::Global;
 
@@ -25,17 +25,16 @@ impl DbCmd {
         match self {
             DbCmd::Create(table) => Ok(DbCmd::Create(table.try_copy(alloc)?)),
             DbCmd::Insert(table, key, value) => {
-                let table = table.try_copy(alloc)?;
-                let key = key.try_copy(alloc)?;
-                Ok(DbCmd::Insert(table, key, value.try_copy(alloc)?))
+                let (table, key, value) = copied_three(alloc, table, key, value)?;
+                Ok(DbCmd::Insert(table, key, value))
             }
             DbCmd::Delete(table, key) => {
-                let table = table.try_copy(alloc)?;
-                Ok(DbCmd::Delete(table, key.try_copy(alloc)?))
+                let (table, key) = copied_two(alloc, table, key)?;
+                Ok(DbCmd::Delete(table, key))
             }
             DbCmd::One(table, key) => {
-                let table = table.try_copy(alloc)?;
-                Ok(DbCmd::One(table, key.try_copy(alloc)?))
+                let (table, key) = copied_two(alloc, table, key)?;
+                Ok(DbCmd::One(table, key))
             }
             DbCmd::All(table) => Ok(DbCmd::All(table.try_copy(alloc)?)),
         }
@@ -59,7 +58,7 @@ impl DbAns {
     {
         match self {
             DbAns::Done => Ok(DbAns::Done),
-            DbAns::Rows(rows) => Ok(DbAns::Rows(copy_text_rows(alloc, rows)?)),
+            DbAns::Rows(rows) => Ok(DbAns::Rows(rows.copied(alloc)?)),
             DbAns::NoTable => Ok(DbAns::NoTable),
             DbAns::TableStands => Ok(DbAns::TableStands),
             DbAns::KeyStands => Ok(DbAns::KeyStands),

@@ -1,7 +1,7 @@
 // Requests and replies.
 ghost use Rattle.std.specs.Prelude.{◌≡◌, IfOk};
 
-use crate::copy::copy_text_pairs;
+use crate::copy::Copied;
 use crate::{Listed, NoMemory, Text};
 use std::alloc::Global;
 
@@ -16,7 +16,7 @@ impl FormVars {
         ensures { IfOk result (λ copy. copy ≡ self.now) }
     {
         Ok(FormVars {
-            pairs: copy_text_pairs(alloc, &self.pairs)?,
+            pairs: self.pairs.copied(alloc)?,
         })
     }
 }

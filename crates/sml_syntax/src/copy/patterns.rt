@@ -1,6 +1,7 @@
 // Copies of patterns.
 ghost use Rattle.std.specs.Prelude.{◌≡◌, IfOk};
 
+use super::Copied;
 use crate::{Boxed, Listed, NoMemory, Pat, PatForm};
 use std::alloc::Global;
 
@@ -13,6 +14,12 @@ impl Pat {
             span: self.span,
             form: self.form.try_copy(alloc)?,
         })
+    }
+}
+
+impl Copied for Pat {
+    fn copied(&self, alloc: Global) -> Result<Pat, NoMemory> {
+        self.try_copy(alloc)
     }
 }
 

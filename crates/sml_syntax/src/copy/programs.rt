@@ -1,7 +1,7 @@
 // Copies of expressions and declarations.
 ghost use Rattle.std.specs.Prelude.{◌≡◌, IfOk};
 
-use super::bindings::{copy_abbreviations, copy_constructors, copy_datatypes};
+use super::copied::{Copied, beside, with_pair};
 use crate::{Boxed, Dec, DecForm, Exp, ExpForm, Listed, NoMemory, Piece, Program, Rule};
 use std::alloc::Global;
 
@@ -71,10 +71,15 @@ impl Rule {
     pub fn try_copy(&self, alloc: Global) -> Result<Rule, NoMemory>
         ensures { IfOk result (λ copy. copy ≡ self.now) }
     {
-        Ok(Rule {
-            pat: self.pat.try_copy(alloc)?,
-            body: self.body.try_copy(alloc)?,
-        })
+        let body = self.body.try_copy(alloc)?;
+        let (pat, body) = beside(alloc, &self.pat, body)?;
+        Ok(Rule { pat, body })
+    }
+}
+
+impl Copied for Rule {
+    fn copied(&self, alloc: Global) -> Result<Rule, NoMemory> {
+        self.try_copy(alloc)
     }
 }
 
@@ -111,22 +116,22 @@ impl DecForm {
             DecForm::Val(binds) => {
                 let mut copies = Vec::new(alloc);
                 for bind in binds.as_slice() {
-                    let pat = bind.0.try_copy(alloc)?;
-                    copies.push((pat, bind.1.try_copy(alloc)?))?;
+                    let body = bind.1.try_copy(alloc)?;
+                    copies = with_pair(alloc, copies, &bind.0, body)?;
                 }
                 Ok(DecForm::Val(Listed::of(copies)))
             }
             DecForm::ValRec(binds) => {
                 let mut copies = Vec::new(alloc);
                 for bind in binds.as_slice() {
-                    let name = bind.0.try_copy(alloc)?;
-                    copies.push((name, copy_rules(alloc, &bind.1)?))?;
+                    let rules = copy_rules(alloc, &bind.1)?;
+                    copies = with_pair(alloc, copies, &bind.0, rules)?;
                 }
                 Ok(DecForm::ValRec(Listed::of(copies)))
             }
-            DecForm::Abbrev(binds) => Ok(DecForm::Abbrev(copy_abbreviations(alloc, binds)?)),
-            DecForm::DataDef(binds) => Ok(DecForm::DataDef(copy_datatypes(alloc, binds)?)),
-            DecForm::ExnDef(binds) => Ok(DecForm::ExnDef(copy_constructors(alloc, binds)?)),
+            DecForm::Abbrev(binds) => Ok(DecForm::Abbrev(binds.copied(alloc)?)),
+            DecForm::DataDef(binds) => Ok(DecForm::DataDef(binds.copied(alloc)?)),
+            DecForm::ExnDef(binds) => Ok(DecForm::ExnDef(binds.copied(alloc)?)),
             DecForm::Local(hidden, shown) => {
                 let hidden = copy_decs(alloc, hidden)?;
                 Ok(DecForm::Local(hidden, copy_decs(alloc, shown)?))
@@ -154,7 +159,7 @@ fn copy_exps(alloc: Global, exps: &Listed<Exp>) -> Result<Listed<Exp>, NoMemory>
 }
 
 #[cycle(program_copies)]
-pub(crate) fn copy_rules(alloc: Global, rules: &Listed<Rule>) -> Result<Listed<Rule>, NoMemory>
+fn copy_rules(alloc: Global, rules: &Listed<Rule>) -> Result<Listed<Rule>, NoMemory>
     ensures { IfOk result (λ copy. copy ≡ rules.now) }
 {
     let mut copies = Vec::new(alloc);

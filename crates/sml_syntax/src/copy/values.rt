@@ -1,8 +1,8 @@
 // Copies of values.
 ghost use Rattle.std.specs.Prelude.{◌≡◌, IfOk};
 
-use super::programs::copy_rules;
-use crate::{Bound, Boxed, Closure, Listed, NoMemory, Rule, Text, Value};
+use super::copied::{Copied, with_pair};
+use crate::{Bound, Boxed, Closure, Listed, NoMemory, Text, Value};
 use std::alloc::Global;
 
 impl Value {
@@ -42,9 +42,9 @@ impl Closure {
         ensures { IfOk result (λ copy. copy ≡ self.now) }
     {
         Ok(Closure {
-            rules: copy_rules(alloc, &self.rules)?,
+            rules: self.rules.copied(alloc)?,
             env: copy_environment(alloc, &self.env)?,
-            group: copy_group(alloc, &self.group)?,
+            group: self.group.copied(alloc)?,
         })
     }
 }
@@ -95,23 +95,8 @@ fn copy_environment(
 {
     let mut copies = Vec::new(alloc);
     for entry in names.as_slice() {
-        let name = entry.0.try_copy(alloc)?;
-        copies.push((name, entry.1.try_copy(alloc)?))?;
-    }
-    Ok(Listed::of(copies))
-}
-
-/// The functions of a closure's own declaration.
-fn copy_group(
-    alloc: Global,
-    functions: &Listed<(Text, Listed<Rule>)>,
-) -> Result<Listed<(Text, Listed<Rule>)>, NoMemory>
-    ensures { IfOk result (λ copy. copy ≡ functions.now) }
-{
-    let mut copies = Vec::new(alloc);
-    for function in functions.as_slice() {
-        let name = function.0.try_copy(alloc)?;
-        copies.push((name, copy_rules(alloc, &function.1)?))?;
+        let bound = entry.1.try_copy(alloc)?;
+        copies = with_pair(alloc, copies, &entry.0, bound)?;
     }
     Ok(Listed::of(copies))
 }
