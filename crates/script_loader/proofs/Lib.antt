@@ -1,9 +1,2 @@
-mod Options
-mod Parents
-mod Fronts
-mod Numbers
-mod Cuts
-mod LineLaws
-mod Taking
-mod Summaries
-mod Exact
+pub mod Lists
+pub mod Read

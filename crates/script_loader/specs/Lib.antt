@@ -1,4 +1,4 @@
-pub mod Names
-pub mod ProjectFile
+pub mod Lists
+pub mod Refusals
+pub mod Sources
 pub mod Reading
-pub mod Refused

@@ -1,10 +1,7 @@
-//! The loader of projects: a project's lines, and what its files hold.
+//! The loader of projects.
 #![tactic(auto)]
 
-mod line;
-mod lines;
-mod names;
-mod order;
-mod project;
+mod refusal;
+mod source;
 
-pub use project::{LineFault, Project, ProjectFile, ProjectRefusal, read_project};
+pub use refusal::LoadRefusal;
