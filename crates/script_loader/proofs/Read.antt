@@ -1,11 +1,16 @@
 -- The reading of a project's files.
 use Rattle.std.proofs.Common.{◌≡◌, ◌⊎◌, ℕ, ◌+◌, ◌-◌, ◌≤◌, List, [], ◌∷◌, ◌++◌, length, refl, ap, sym, ◌∙◌, inl, inr, subst, arith, append_assoc, append-nil}
-use Rattle.outside_world.specs.Told.{Contents, LacksFile, HoldsLongFile, Rose}
+use Rattle.outside_world.specs.Told.{Contents, HoldsFile, LacksFile, HoldsLongFile, Rose}
 use Rattle.project_lines.specs.declared.project.ProjectFile.{ProjectFile}
 use Rattle.script_loader.specs.declared.source.Source.{Source}
 use Rattle.script_loader.specs.declared.refusal.LoadRefusal.{LoadRefusal}
 use Rattle.script_loader.specs.declared.refusal.LoadRefusal.TheVariants as refusal
-use Rattle.script_loader.specs.Refusals.{Tells, IsTold}
+use Rattle.project_lines.specs.declared.project.ProjectRefusal.{ProjectRefusal}
+use Rattle.project_lines.specs.declared.project.ProjectRefusal.TheVariants as lines
+use Rattle.project_lines.specs.Refused.{IsRefusedAs}
+use Rattle.script_loader.specs.Refusals.{Tells, IsTold, line_refusal}
+use Rattle.project_lines.specs.declared.project.Project.{Project}
+use Rattle.script_loader.specs.Project.{most_bytes, HoldsProject, IsBadFile, unread, bad_line, IsUnreadable, unread_file}
 use Rattle.script_loader.specs.Lists.{none}
 use Rattle.script_loader.specs.Sources.{name_of, bytes_of, IsRead, AreRead, IsUnread, absent, failed, long, IsFirstUnread}
 use Rattle.script_loader.specs.Reading.{TakesFile, ReadSoFar}
@@ -73,3 +78,30 @@ first_unread contents here_contents before later after project most left files h
       unread = subst (λ n. IsUnread contents before after project n (name_of file) e) same (unread_from contents before later after project left (name_of file) e l (subst (λ c. IsUnread c later after project left (name_of file) e) same_contents u));
     })
 first_unread contents here_contents before later after project most left files here rest sources file e r h l same_contents (inr m) = inr m
+
+-- the project file
+
+pub told_unread : (contents : Contents) (before after : ℕ) (name : List ℕ) (e : LoadRefusal) → IsTold (IsUnread contents before after name most_bytes name) e → IsTold (IsBadFile contents before after name) e
+told_unread contents before after name e (inl u) = inl (unread u)
+told_unread contents before after name e (inr m) = inr m
+
+pub told_bad_line : (contents : Contents) (before after : ℕ) (name text : List ℕ) (r : ProjectRefusal) (e : LoadRefusal) → HoldsFile contents name text → length text ≤ most_bytes → IsRefusedAs text r → Tells e (line_refusal name r) → IsTold (IsBadFile contents before after name) e
+told_bad_line contents before after name text (lines.Line number fault) e h w f (inl t) = inl (bad_line (record { text = text; held = h; within = w; number = number; fault = fault; first = f; told = t }))
+told_bad_line contents before after name text (lines.Line number fault) e h w f (inr m) = inr m
+told_bad_line contents before after name text lines.NoMemory e h w f (inl t) = inr t
+told_bad_line contents before after name text lines.NoMemory e h w f (inr m) = inr m
+
+-- the files that it names
+
+pub told_first_unread : (contents here_contents : Contents) (before later after : ℕ) (name : List ℕ) (project : Project) (left : ℕ) (named : List ProjectFile) (e : LoadRefusal) → HoldsProject contents name project left → named ≡ project.files → before ≤ later → here_contents ≡ contents → IsTold (IsFirstUnread here_contents later after name left named) e → IsTold (IsUnreadable contents before after name) e
+told_first_unread contents here_contents before later after name project left named e h n l same (inl u) = inl (unread_file project left h (record {
+  front = u.front;
+  file = u.file;
+  back = u.back;
+  split = sym n ∙ u.split;
+  sources = u.sources;
+  read = subst (λ c. AreRead c u.front u.sources) same u.read;
+  within = u.within;
+  unread = unread_from contents before later after name (left - bytes_of u.sources) (name_of u.file) e l (subst (λ c. IsUnread c later after name (left - bytes_of u.sources) (name_of u.file) e) same u.unread);
+}))
+told_first_unread contents here_contents before later after name project left named e h n l same (inr m) = inr m

@@ -1,0 +1,63 @@
+// The trees of a project.
+ghost use Rattle.std.specs.Prelude.{◌≡◌, ◌≤◌, [], ◌∷◌, IfOk, IfErr};
+ghost use Rattle.sml_syntax.specs.PreludeText.{prelude_text};
+ghost use Rattle.script_loader.specs.Refusals.{IsTold};
+ghost use Rattle.script_loader.specs.Trees.{HasTree};
+ghost use Rattle.script_loader.specs.Cause.{IsFirstMistake, prelude_source, LoadCause, HasTrees};
+
+use crate::project::{ProjectSources, read_files};
+use crate::refusal::LoadRefusal;
+use crate::source::Source;
+use crate::tokens::lex_source;
+use crate::trees::{parse_lexed, source_trees};
+use outside_world::Files;
+use project_lines::Project;
+use sml_syntax::{Listed, Program, Text};
+use std::alloc::Global;
+use web_prims::prelude;
+
+/// A project, and the trees of the prelude and of the files that it names.
+#[derive(PartialEq, Eq, Drop)]
+pub struct ProjectTrees {
+    pub project: Project,
+    pub prelude: Program,
+    /// One for each file of the project, in its order.
+    pub trees: Listed<Program>,
+}
+
+// The tree of the prelude.
+#[tactic(auto, using(crate::proofs::Order::prelude_misspelt, crate::proofs::Order::prelude_treeless, crate::proofs::Order::prelude_read))]
+fn prelude_tree(alloc: Global) -> Result<Program, LoadRefusal>
+    ensures tree { IfOk result (HasTree prelude_text) }
+    ensures refused { IfErr result (IsTold (IsFirstMistake (prelude_source ∷ []))) }
+{
+    let text = prelude(alloc)?;
+    let name = Text::from_vec(Vec::new(alloc));
+    let source = Source { name, text };
+    let lexed = lex_source(alloc, &source)?;
+    parse_lexed(alloc, &lexed)
+}
+
+/// Reads a project and its files, and gives their trees. Each file is read before any is cut into tokens, and each is cut
+/// before any is parsed. After a refusal nothing is held back.
+#[tactic(auto, using(crate::proofs::Order::told_prelude, crate::proofs::Order::told_unreadable, crate::proofs::Order::told_mistaken))]
+pub fn load_trees<F: Files>(
+    alloc: Global,
+    files: &mut F,
+    project: &Text,
+) -> Result<ProjectTrees, LoadRefusal>
+    ensures trees { IfOk result (HasTrees (F.contents files.old) project.now) }
+    ensures cause { IfErr result (IsTold (LoadCause (F.contents files.old) (F.file_count files.old) (F.file_count files.new) project.now)) }
+    ensures same { F.contents files.new ≡ F.contents files.old }
+    ensures count { F.file_count files.old ≤ F.file_count files.new }
+    ensures keeps { F.kept files.new ≡ F.kept files.old }
+{
+    let prelude = prelude_tree(alloc)?;
+    let ProjectSources { project, sources } = read_files(alloc, files, project)?;
+    let trees = Listed::of(source_trees(alloc, &sources)?);
+    Ok(ProjectTrees {
+        project,
+        prelude,
+        trees,
+    })
+}
