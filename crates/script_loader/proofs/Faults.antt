@@ -1,5 +1,5 @@
 -- The mistakes of files as refusals.
-use Rattle.std.proofs.Common.{◌≡◌, ◌⊎◌, ℕ, List, Option, Some, None, Ok, Err, inl, inr}
+use Rattle.std.proofs.Common.{◌≡◌, ◌⊎◌, ℕ, List, Option, Some, None, Result, Ok, Err, IfErr, inl, inr, subst, sym}
 use Rattle.sml_syntax.specs.Spelling.{Refusal}
 use Rattle.sml_syntax.specs.Tokens.{IsRefused}
 use Rattle.sml_lex.specs.Lexed.{IfRefused}
@@ -29,3 +29,7 @@ treeless lexed parse.NoMemory e a (inl t) = inr t
 treeless lexed (parse.Unexpected n) e a (inl t) = inl (record { refusal = parse.Unexpected n; refused = a; told = t })
 treeless lexed (parse.Unsupported n l) e a (inl t) = inl (record { refusal = parse.Unsupported n l; refused = a; told = t })
 treeless lexed (parse.TooDeep n) e a (inl t) = inl (record { refusal = parse.TooDeep n; refused = a; told = t })
+
+-- a refusal that is handed on
+pub err_told : {T : Type 0} (P : LoadRefusal → Type 0) (r : Result T LoadRefusal) (y e : LoadRefusal) → r ≡ Err y → y ≡ e → P e → IfErr r P
+err_told P r y e w v p = subst (λ q. IfErr q P) (sym w) (subst P (sym v) p)

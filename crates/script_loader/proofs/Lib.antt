@@ -1,3 +1,5 @@
 pub mod Lists
 pub mod Read
 pub mod Faults
+pub mod Order
+pub mod Programs

@@ -39,3 +39,37 @@ stops_here Fault all here rest done x e s h f = record {
   each = s.each;
   fault = f;
 }
+
+-- parts of lists side by side
+
+-- what goes with an item of the first list
+pub each_at : {A B : Type 0} {R : A → B → Type 0} (front : List A) (x : A) (back : List A) (ys : List B) → Each R (front ++ x ∷ back) ys → (y : B) × R x y
+each_at [] x back [] e = elim e [ ]
+each_at [] x back (y ∷ ys) (one r e) = (y, r)
+each_at (f ∷ front) x back [] e = elim e [ ]
+each_at (f ∷ front) x back (y ∷ ys) (one r e) = each_at front x back ys e
+
+-- the item of the first list that goes with one of the second, and those before both
+pub record Split {A B : Type 0} (R : A → B → Type 0) (xs : List A) (front : List B) (y : B) : Type 0 where
+  pub before : List A
+  pub here : A
+  pub after : List A
+  pub split : xs ≡ before ++ here ∷ after
+  pub each : Each R before front
+  pub goes : R here y
+
+pub each_split : {A B : Type 0} {R : A → B → Type 0} (xs : List A) (front : List B) (y : B) (back : List B) → Each R xs (front ++ y ∷ back) → Split R xs front y
+each_split [] [] y back e = elim e [ ]
+each_split [] (f ∷ front) y back e = elim e [ ]
+each_split (x ∷ xs) [] y back (one r e) = record { before = []; here = x; after = xs; split = refl; each = none; goes = r }
+each_split (x ∷ xs) (f ∷ front) y back (one r e) =
+    let s = each_split xs front y back e in
+    record { before = x ∷ s.before; here = s.here; after = s.after; split = ap (λ zs. x ∷ zs) s.split; each = one r s.each; goes = s.goes }
+
+pub each_then : {A B C : Type 0} {R : A → B → Type 0} {S : B → C → Type 0} (T : A → C → Type 0) (xs : List A) (ys : List B) (zs : List C) → ((x : A) (y : B) (z : C) → R x y → S y z → T x z) → Each R xs ys → Each S ys zs → Each T xs zs
+each_then T [] [] [] f none none = none
+each_then T [] [] (z ∷ zs) f e d = elim d [ ]
+each_then T [] (y ∷ ys) zs f e d = elim e [ ]
+each_then T (x ∷ xs) [] zs f e d = elim e [ ]
+each_then T (x ∷ xs) (y ∷ ys) [] f e d = elim d [ ]
+each_then T (x ∷ xs) (y ∷ ys) (z ∷ zs) f (one r e) (one s d) = one (f x y z r s) (each_then T xs ys zs f e d)

@@ -8,7 +8,7 @@ use Rattle.script_loader.specs.declared.source.Source.{Source}
 use Rattle.script_loader.specs.declared.load.ProjectTrees.{ProjectTrees}
 use Rattle.script_loader.specs.Project.{HoldsFiles, IsUnreadable}
 use Rattle.script_loader.specs.Tokens.{IsMisspelt}
-use Rattle.script_loader.specs.Trees.{HasTree, AreTrees, IsUngrammatical}
+use Rattle.script_loader.specs.Trees.{IsTreeOf, AreTrees, IsUngrammatical}
 
 -- the steps that judge the texts of files, and which of them comes first
 pub data Step : Type 0 where
@@ -36,7 +36,7 @@ pub record IsFirstMistake (files : List Source) (e : LoadRefusal) : Type 0 where
   pub no_earlier_file : (front back : List Source) (other : Source) (f : LoadRefusal) → before ≡ front ++ other ∷ back → IsMistake step other f → ⊥
 
 -- the prelude as a file, which has no name
-abbrev pub prelude_source : Source
+unfoldable pub prelude_source : Source
 prelude_source = record { name = []; text = prelude_text }
 
 -- why a project isn't loaded. The counts are those of failed reads, before the call and after it.
@@ -52,5 +52,5 @@ pub data LoadCause (contents : Contents) (before after : ℕ) (project : List �
 pub record HasTrees (contents : Contents) (project : List ℕ) (trees : ProjectTrees) : Type 0 where
   pub sources : List Source
   pub held : HoldsFiles contents project trees.project sources
-  pub of_prelude : HasTree prelude_text trees.prelude
+  pub of_prelude : IsTreeOf prelude_source trees.prelude
   pub of_files : AreTrees sources trees.trees

@@ -4,3 +4,6 @@ pub mod Sources
 pub mod Reading
 pub mod Project
 pub mod Tokens
+pub mod Trees
+pub mod Cause
+pub mod Scripts

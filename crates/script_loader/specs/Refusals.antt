@@ -2,6 +2,8 @@
 use Rattle.std.specs.Prelude.{◌≡◌, ◌⊎◌, ℕ, List, Option, Some, None}
 use Rattle.sml_syntax.specs.Spelling as spell
 use Rattle.sml_syntax.specs.Spelling.{Refusal}
+use Rattle.sml_parse.specs.declared.parser.ParseRefusal.{ParseRefusal}
+use Rattle.sml_parse.specs.declared.parser.ParseRefusal.TheVariants as parse
 use Rattle.project_lines.specs.declared.project.LineFault.{LineFault}
 use Rattle.project_lines.specs.declared.project.LineFault.TheVariants as fault
 use Rattle.project_lines.specs.declared.project.ProjectRefusal.{ProjectRefusal}
@@ -38,3 +40,10 @@ lexical file (spell.Unsupported n lack) = refusal.Unsupported file n lack
 abbrev pub lexical_answer : List ℕ → Option Refusal → LoadRefusal
 lexical_answer file (Some r) = lexical file r
 lexical_answer file None = refusal.NoMemory
+
+-- the parser's refusal of a file
+abbrev pub grammatical : List ℕ → ParseRefusal → LoadRefusal
+grammatical file (parse.Unexpected n) = refusal.Unexpected file n
+grammatical file (parse.Unsupported n lack) = refusal.Unsupported file n lack
+grammatical file (parse.TooDeep n) = refusal.TooDeep file n
+grammatical file parse.NoMemory = refusal.NoMemory

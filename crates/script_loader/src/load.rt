@@ -1,18 +1,16 @@
 // The trees of a project.
 ghost use Rattle.std.specs.Prelude.{◌≡◌, ◌≤◌, [], ◌∷◌, IfOk, IfErr};
-ghost use Rattle.sml_syntax.specs.PreludeText.{prelude_text};
 ghost use Rattle.script_loader.specs.Refusals.{IsTold};
-ghost use Rattle.script_loader.specs.Trees.{HasTree};
+ghost use Rattle.script_loader.specs.Trees.{IsTreeOf};
 ghost use Rattle.script_loader.specs.Cause.{IsFirstMistake, prelude_source, LoadCause, HasTrees};
 
 use crate::project::{ProjectSources, read_files};
 use crate::refusal::LoadRefusal;
 use crate::source::Source;
-use crate::tokens::lex_source;
-use crate::trees::{parse_lexed, source_trees};
+use crate::trees::{source_tree, source_trees};
 use outside_world::Files;
 use project_lines::Project;
-use sml_syntax::{Listed, Program, Text};
+use sml_syntax::{Listed, NoMemory, Program, Text};
 use std::alloc::Global;
 use web_prims::prelude;
 
@@ -25,17 +23,22 @@ pub struct ProjectTrees {
     pub trees: Listed<Program>,
 }
 
-// The tree of the prelude.
-#[tactic(auto, using(crate::proofs::Order::prelude_misspelt, crate::proofs::Order::prelude_treeless, crate::proofs::Order::prelude_read))]
-fn prelude_tree(alloc: Global) -> Result<Program, LoadRefusal>
-    ensures tree { IfOk result (HasTree prelude_text) }
-    ensures refused { IfErr result (IsTold (IsFirstMistake (prelude_source ∷ []))) }
+// The prelude as a file.
+fn prelude_source(alloc: Global) -> Result<Source, NoMemory>
+    ensures { IfOk result (λ source. source ≡ prelude_source) }
 {
     let text = prelude(alloc)?;
     let name = Text::from_vec(Vec::new(alloc));
-    let source = Source { name, text };
-    let lexed = lex_source(alloc, &source)?;
-    parse_lexed(alloc, &lexed)
+    Ok(Source { name, text })
+}
+
+// The tree of the prelude.
+fn prelude_tree(alloc: Global) -> Result<Program, LoadRefusal>
+    ensures tree { IfOk result (IsTreeOf prelude_source) }
+    ensures refused { IfErr result (IsTold (IsFirstMistake (prelude_source ∷ []))) }
+{
+    let source = prelude_source(alloc)?;
+    source_tree(alloc, &source)
 }
 
 /// Reads a project and its files, and gives their trees. Each file is read before any is cut into tokens, and each is cut

@@ -1,10 +1,11 @@
 // Why a project isn't loaded, and the refusals of the steps as such.
 ghost use Rattle.std.specs.Prelude.{◌≡◌};
-ghost use Rattle.script_loader.specs.Refusals.{Tells, line_refusal, lexical_answer};
+ghost use Rattle.script_loader.specs.Refusals.{Tells, line_refusal, lexical_answer, grammatical};
 ghost use Rattle.sml_lex.specs.Lexed.{refusal_of};
 
 use project_lines::{LineFault, ProjectRefusal};
 use sml_lex::LexRefusal;
+use sml_parse::ParseRefusal;
 use sml_syntax::{Lack, NoMemory, Text};
 use std::alloc::{AllocFailed, Global};
 
@@ -125,5 +126,26 @@ fn named_lexical(file: Text, refusal: LexRefusal) -> LoadRefusal
         LexRefusal::WideNumber(place) => LoadRefusal::WideNumber { file, place },
         LexRefusal::Unsupported(place, lack) => LoadRefusal::Unsupported { file, place, lack },
         LexRefusal::NoMemory => LoadRefusal::NoMemory,
+    }
+}
+
+/// The parser's refusal of a file.
+pub(crate) fn grammatical_refusal(alloc: Global, name: &Text, refusal: ParseRefusal) -> LoadRefusal
+    ensures { Tells result (grammatical name.now refusal) }
+{
+    match name.try_copy(alloc) {
+        Ok(file) => named_grammatical(file, refusal),
+        Err(_) => LoadRefusal::NoMemory,
+    }
+}
+
+fn named_grammatical(file: Text, refusal: ParseRefusal) -> LoadRefusal
+    ensures { result ≡ grammatical file refusal }
+{
+    match refusal {
+        ParseRefusal::Unexpected(place) => LoadRefusal::Unexpected { file, place },
+        ParseRefusal::Unsupported(place, lack) => LoadRefusal::Unsupported { file, place, lack },
+        ParseRefusal::TooDeep(place) => LoadRefusal::TooDeep { file, place },
+        ParseRefusal::NoMemory => LoadRefusal::NoMemory,
     }
 }

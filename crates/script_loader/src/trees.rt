@@ -1,19 +1,19 @@
 // The trees of a project's files.
-ghost use Rattle.std.specs.Prelude.{IfOk, IfErr};
+ghost use Rattle.std.specs.Prelude.{[], ◌∷◌, IfOk, IfErr};
 ghost use Rattle.script_loader.specs.Lists.{Each, Stops};
 ghost use Rattle.script_loader.specs.Refusals.{IsTold};
-ghost use Rattle.script_loader.specs.Trees.{AreTrees, IsParsed, IsTreeless};
+ghost use Rattle.script_loader.specs.Trees.{IsTreeOf, AreTrees, IsParsed, IsTreeless};
 ghost use Rattle.script_loader.specs.Cause.{IsFirstMistake};
 
 use crate::refusal::{LoadRefusal, grammatical_refusal};
 use crate::source::Source;
-use crate::tokens::{Lexed, lex_sources};
+use crate::tokens::{Lexed, lex_source, lex_sources};
 use sml_parse::parse;
 use sml_syntax::Program;
 use std::alloc::Global;
 
 #[tactic(auto, using(crate::proofs::Faults::is_parsed, crate::proofs::Faults::treeless))]
-pub(crate) fn parse_lexed(alloc: Global, lexed: &Lexed) -> Result<Program, LoadRefusal>
+fn parse_lexed(alloc: Global, lexed: &Lexed) -> Result<Program, LoadRefusal>
     ensures tree { IfOk result (IsParsed lexed.now) }
     ensures refused { IfErr result (IsTold (IsTreeless lexed.now)) }
 {
@@ -43,4 +43,14 @@ pub(crate) fn source_trees(alloc: Global, sources: &[Source]) -> Result<Vec<Prog
 {
     let files = lex_sources(alloc, sources)?;
     parse_files(alloc, &files)
+}
+
+/// The tree of a file by itself.
+#[tactic(auto, using(crate::proofs::Order::lone_misspelt, crate::proofs::Order::lone_treeless, crate::proofs::Order::tree_of))]
+pub(crate) fn source_tree(alloc: Global, source: &Source) -> Result<Program, LoadRefusal>
+    ensures tree { IfOk result (IsTreeOf source.now) }
+    ensures refused { IfErr result (IsTold (IsFirstMistake (source.now ∷ []))) }
+{
+    let lexed = lex_source(alloc, source)?;
+    parse_lexed(alloc, &lexed)
 }
