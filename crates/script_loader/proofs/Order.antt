@@ -108,6 +108,6 @@ pub told_unreadable : (contents : Contents) (before after : ℕ) (project : List
 told_unreadable contents before after project e (inl m) = inl (unreadable m)
 told_unreadable contents before after project e (inr m) = inr m
 
-pub told_mistaken : (contents : Contents) (before after : ℕ) (project : List ℕ) (lines : Project) (sources : List Source) (e : LoadRefusal) → HoldsFiles contents project lines sources → IsTold (IsFirstMistake sources) e → IsTold (LoadCause contents before after project) e
-told_mistaken contents before after project lines sources e h (inl m) = inl (mistaken lines sources h m)
-told_mistaken contents before after project lines sources e h (inr m) = inr m
+pub told_mistaken : (contents : Contents) (before after : ℕ) (project : List ℕ) (lines : Project) (sources seen : List Source) (e : LoadRefusal) → HoldsFiles contents project lines sources → seen ≡ sources → IsTold (IsFirstMistake seen) e → IsTold (LoadCause contents before after project) e
+told_mistaken contents before after project lines sources seen e h same (inl m) = inl (mistaken lines sources h (subst (λ s. IsFirstMistake s e) same m))
+told_mistaken contents before after project lines sources seen e h same (inr m) = inr m

@@ -11,4 +11,4 @@ returns-in_err-project-clause-cause g c =
 pub returns-in_err-source_trees-clause-cause : goal.returns-in_err-source_trees-clause-cause
 returns-in_err-source_trees-clause-cause g c =
     let handed = err_from_is_err_and c.from_residual-in_err-source_trees.result c.from_residual-in_err-source_trees.ensures.1 in
-    err_told _ c.from_residual-in_err-source_trees.result handed.0 _ handed.1 handed.2 (told_mistaken _ _ _ _ c.in_ok-project.field-0.project c.in_ok-project.field-0.sources.items _ c.in_ok-project.ensures.read c.in_err-source_trees.ensures.refused)
+    err_told _ c.from_residual-in_err-source_trees.result handed.0 _ handed.1 handed.2 (told_mistaken _ _ _ _ c.in_ok-project.field-0.project c.in_ok-project.field-0.sources.items _ _ c.in_ok-project.ensures.read c.deref.ensures.value c.in_err-source_trees.ensures.refused)
