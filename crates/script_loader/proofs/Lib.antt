@@ -3,3 +3,4 @@ pub mod Read
 pub mod Faults
 pub mod Order
 pub mod Programs
+pub mod Exact

@@ -22,7 +22,7 @@ use Rattle.script_loader.proofs.Lists.{each_at, each_split, each_then}
 lexed_well : (source : Source) (lexed : Lexed) (e : LoadRefusal) → IsLexed source lexed → IsMisspelt source e → ⊥
 lexed_well source lexed e l m = not-both l.has m.refused
 
-read_well : (source : Source) (tree : Program) (e : LoadRefusal) → IsTreeOf source tree → IsUngrammatical source e → ⊥
+pub read_well : (source : Source) (tree : Program) (e : LoadRefusal) → IsTreeOf source tree → IsUngrammatical source e → ⊥
 read_well source tree e t m =
     let same = one-partition m.has t.is.has in
     let both = sym t.is.read ∙ ap parsed (sym same) ∙ m.refused in
@@ -104,10 +104,10 @@ pub told_prelude : (contents : Contents) (before after : ℕ) (project : List �
 told_prelude contents before after project e (inl m) = inl (in_prelude m)
 told_prelude contents before after project e (inr m) = inr m
 
-pub told_unreadable : (contents : Contents) (before after : ℕ) (project : List ℕ) (e : LoadRefusal) → IsTold (IsUnreadable contents before after project) e → IsTold (LoadCause contents before after project) e
-told_unreadable contents before after project e (inl m) = inl (unreadable m)
-told_unreadable contents before after project e (inr m) = inr m
+pub told_unreadable : (contents : Contents) (before after : ℕ) (project : List ℕ) (prelude : Program) (e : LoadRefusal) → IsTreeOf prelude_source prelude → IsTold (IsUnreadable contents before after project) e → IsTold (LoadCause contents before after project) e
+told_unreadable contents before after project prelude e t (inl m) = inl (unreadable prelude t m)
+told_unreadable contents before after project prelude e t (inr m) = inr m
 
-pub told_mistaken : (contents : Contents) (before after : ℕ) (project : List ℕ) (lines : Project) (sources seen : List Source) (e : LoadRefusal) → HoldsFiles contents project lines sources → seen ≡ sources → IsTold (IsFirstMistake seen) e → IsTold (LoadCause contents before after project) e
-told_mistaken contents before after project lines sources seen e h same (inl m) = inl (mistaken lines sources h (subst (λ s. IsFirstMistake s e) same m))
-told_mistaken contents before after project lines sources seen e h same (inr m) = inr m
+pub told_mistaken : (contents : Contents) (before after : ℕ) (project : List ℕ) (prelude : Program) (lines : Project) (sources seen : List Source) (e : LoadRefusal) → IsTreeOf prelude_source prelude → HoldsFiles contents project lines sources → seen ≡ sources → IsTold (IsFirstMistake seen) e → IsTold (LoadCause contents before after project) e
+told_mistaken contents before after project prelude lines sources seen e t h same (inl m) = inl (mistaken prelude t lines sources h (subst (λ s. IsFirstMistake s e) same m))
+told_mistaken contents before after project prelude lines sources seen e t h same (inr m) = inr m

@@ -2,7 +2,9 @@
 ghost use Rattle.std.specs.Prelude.{◌≡◌, ◌≤◌, [], ◌∷◌, IfOk, IfErr};
 ghost use Rattle.script_loader.specs.Refusals.{IsTold};
 ghost use Rattle.script_loader.specs.Trees.{IsTreeOf};
-ghost use Rattle.script_loader.specs.Cause.{IsFirstMistake, prelude_source, LoadCause, HasTrees};
+ghost use Rattle.script_loader.specs.Cause.{IsFirstMistake, prelude_source, LoadCause, HasTrees, AreSure, GivesTrees, GivesCause};
+ghost use Rattle.script_loader.specs.declared.load.ProjectTrees.{ProjectTrees as TreesSeen};
+ghost use Rattle.script_loader.specs.declared.refusal.LoadRefusal.{LoadRefusal as RefusalSeen};
 
 use crate::project::{ProjectSources, read_files};
 use crate::refusal::LoadRefusal;
@@ -43,8 +45,27 @@ fn prelude_tree(alloc: Global) -> Result<Program, LoadRefusal>
 
 /// Reads a project and its files, and gives their trees. Each file is read before any is cut into tokens, and each is cut
 /// before any is parsed. After a refusal nothing is held back.
-#[tactic(auto, using(crate::proofs::Order::told_prelude))]
+#[tactic(auto, using(crate::proofs::Exact::gives_trees, crate::proofs::Exact::gives_cause))]
 pub fn load_trees<F: Files>(
+    alloc: Global,
+    files: &mut F,
+    project: &Text,
+) -> Result<ProjectTrees, LoadRefusal>
+    ensures trees { IfOk result (HasTrees (F.contents files.old) project.now) }
+    ensures cause { IfErr result (IsTold (LoadCause (F.contents files.old) (F.file_count files.old) (F.file_count files.new) project.now)) }
+
+    // Each comes wherever it may, unless memory is wanting.
+    ensures trees_where { AreSure (F.contents files.old) (F.file_count files.old) (F.file_count files.new) → (trees : TreesSeen) → HasTrees (F.contents files.old) project.now trees → GivesTrees result trees }
+    ensures cause_where { AreSure (F.contents files.old) (F.file_count files.old) (F.file_count files.new) → (e : RefusalSeen) → LoadCause (F.contents files.old) (F.file_count files.old) (F.file_count files.new) project.now e → GivesCause result e }
+    ensures same { F.contents files.new ≡ F.contents files.old }
+    ensures count { F.file_count files.old ≤ F.file_count files.new }
+    ensures keeps { F.kept files.new ≡ F.kept files.old }
+{
+    find_trees(alloc, files, project)
+}
+
+#[tactic(auto, using(crate::proofs::Order::told_prelude))]
+fn find_trees<F: Files>(
     alloc: Global,
     files: &mut F,
     project: &Text,
