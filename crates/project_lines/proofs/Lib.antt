@@ -6,4 +6,4 @@ mod Cuts
 mod LineLaws
 mod Taking
 mod Summaries
-mod Exact
+pub mod Exact

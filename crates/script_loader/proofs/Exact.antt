@@ -110,7 +110,7 @@ one_tree source t u a b =
 
 -- what files hold that tell it
 
-module (text_at : List ℕ → Option (List ℕ)) (before after : ℕ) (whole : Rose before after → ⊥) where
+module _ (text_at : List ℕ → Option (List ℕ)) (before after : ℕ) (whole : Rose before after → ⊥) where
 
   some_same : {A : Type 0} (x y : A) → ◌≡◌ {A = Option A} (Some x) (Some y) → x ≡ y
   some_same x y e = cc
@@ -140,27 +140,21 @@ module (text_at : List ℕ → Option (List ℕ)) (before after : ℕ) (whole : 
   one_reading files s t a b = each_same files s t one_source a b
 
   -- where all are read within the limit, none is unread
-  bytes_in : (files front : List ProjectFile) (file : ProjectFile) (back : List ProjectFile) (read sources : List Source) → files ≡ front ++ file ∷ back → AreRead (Some text_at) front read → AreRead (Some text_at) files sources → (text : List ℕ) × HoldsFile (Some text_at) (name_of file) text × (bytes_of read + length text ≤ bytes_of sources)
-  bytes_in files [] file back [] [] e none a = let b = subst (λ fs. AreRead (Some text_at) fs []) e a in elim b [ ]
-  bytes_in files [] file back [] (s ∷ sources) e none a = first (subst (λ fs. AreRead (Some text_at) fs (s ∷ sources)) e a)
-    where
-      first : AreRead (Some text_at) (file ∷ back) (s ∷ sources) → (text : List ℕ) × HoldsFile (Some text_at) (name_of file) text × (0 + length text ≤ bytes_of (s ∷ sources))
-      first (one r d) = (s.text, r.held, omega arith)
-  bytes_in files [] file back (r ∷ read) sources e f a = elim f [ ]
-  bytes_in files (x ∷ front) file back [] sources e f a = elim f [ ]
-  bytes_in files (x ∷ front) file back (r ∷ read) [] e f a = let b = subst (λ fs. AreRead (Some text_at) fs []) e a in elim b [ ]
-  bytes_in files (x ∷ front) file back (r ∷ read) (s ∷ sources) e (one g f) a = more (subst (λ fs. AreRead (Some text_at) fs (s ∷ sources)) e a)
-    where
-      more : AreRead (Some text_at) (x ∷ (front ++ file ∷ back)) (s ∷ sources) → (text : List ℕ) × HoldsFile (Some text_at) (name_of file) text × (bytes_of (r ∷ read) + length text ≤ bytes_of (s ∷ sources))
-      more (one h d) =
-          let found = bytes_in (front ++ file ∷ back) front file back read sources refl f d in
-          let same = ap length (one_text (name_of x) r.text s.text g.held h.held) in
-          let sum = found.2 in
-          (found.0, found.1, omega (arith, same, sum))
+  bytes_in : (front : List ProjectFile) (file : ProjectFile) (back : List ProjectFile) (read sources : List Source) → AreRead (Some text_at) front read → AreRead (Some text_at) (front ++ file ∷ back) sources → (text : List ℕ) × HoldsFile (Some text_at) (name_of file) text × (bytes_of read + length text ≤ bytes_of sources)
+  bytes_in [] file back [] [] f a = elim a [ ]
+  bytes_in [] file back [] (s ∷ sources) f (one r d) = (s.text, r.held, omega arith)
+  bytes_in [] file back (r ∷ read) sources f a = elim f [ ]
+  bytes_in (x ∷ front) file back [] sources f a = elim f [ ]
+  bytes_in (x ∷ front) file back (r ∷ read) [] f a = elim a [ ]
+  bytes_in (x ∷ front) file back (r ∷ read) (s ∷ sources) (one g f) (one h d) =
+      let found = bytes_in front file back read sources f d in
+      let same = ap length (one_text (name_of x) r.text s.text g.held h.held) in
+      let sum = found.2 in
+      (found.0, found.1, omega (arith, same, sum))
 
   read_all : (project : List ℕ) (most : ℕ) (files : List ProjectFile) (sources : List Source) (e : LoadRefusal) → AreRead (Some text_at) files sources → bytes_of sources ≤ most → IsFirstUnread (Some text_at) before after project most files e → ⊥
   read_all project most files sources e a w u =
-      let found = bytes_in files u.front u.file u.back u.sources sources u.split u.read a in
+      let found = bytes_in u.front u.file u.back u.sources sources u.read (subst (λ fs. AreRead (Some text_at) fs sources) u.split a) in
       let sum = found.2 in
       held_well project (most - bytes_of u.sources) (name_of u.file) found.0 e found.1 (omega (arith, sum, w)) u.unread
 

@@ -45,7 +45,6 @@ fn prelude_tree(alloc: Global) -> Result<Program, LoadRefusal>
 
 /// Reads a project and its files, and gives their trees. Each file is read before any is cut into tokens, and each is cut
 /// before any is parsed. After a refusal nothing is held back.
-#[tactic(auto, using(crate::proofs::Exact::gives_trees, crate::proofs::Exact::gives_cause))]
 pub fn load_trees<F: Files>(
     alloc: Global,
     files: &mut F,
