@@ -1,5 +1,5 @@
 -- Where files tell what they hold and no read fails, a project has one cause of refusal, or one list of trees, and never both.
-use Rattle.std.proofs.Common.{◌≡◌, ◌⊎◌, ℕ, ◌+◌, ◌-◌, ◌<◌, ◌≤◌, List, [], ◌∷◌, ◌++◌, length, Option, Some, None, Result, Ok, Err, IfOk, IfErr, refl, ap, sym, ◌∙◌, inl, inr, subst, arith}
+use Rattle.std.proofs.Common.{◌≡◌, ℕ, ◌+◌, ◌-◌, ◌<◌, ◌≤◌, List, [], ◌∷◌, ◌++◌, length, Option, Some, Result, Ok, Err, IfOk, IfErr, refl, ap, sym, ◌∙◌, inl, inr, subst, arith}
 use Rattle.std.proofs.lemmas.Bool.{cases_lt}
 use Rattle.outside_world.specs.Told.{Contents, Rose, HoldsFile}
 use Rattle.project_lines.specs.declared.project.Project.{Project}
@@ -7,22 +7,19 @@ use Rattle.project_lines.specs.declared.project.ProjectFile.{ProjectFile}
 use Rattle.project_lines.specs.ProjectFile.{IsProject, IsFirstBadLine}
 use Rattle.project_lines.proofs.Exact as lines
 use Rattle.sml_syntax.specs.declared.tree.Program.{Program}
-use Rattle.sml_syntax.specs.declared.token.Token.{Token}
-use Rattle.sml_syntax.proofs.Lists.{cons_parts, same_cut, front_of_front}
+use Rattle.sml_syntax.proofs.Lists.{cons_parts, same_cut}
 use Rattle.sml_lex.proofs.Unique.{one-partition, one-refusal, not-both}
 use Rattle.sml_parse.specs.Parsed.{parsed}
 use Rattle.script_loader.specs.declared.refusal.LoadRefusal.{LoadRefusal}
-use Rattle.script_loader.specs.declared.refusal.LoadRefusal.TheVariants as refusal
 use Rattle.script_loader.specs.declared.source.Source.{Source}
 use Rattle.script_loader.specs.declared.load.ProjectTrees.{ProjectTrees}
 use Rattle.script_loader.specs.Lists.{Each, none, one}
 use Rattle.script_loader.specs.Refusals.{IsTold, lexical, grammatical, fault_refusal}
 use Rattle.script_loader.specs.Sources.{name_of, bytes_of, IsRead, AreRead, IsUnread, absent, failed, long, IsFirstUnread}
-use Rattle.script_loader.specs.Project.{most_bytes, HoldsProject, HoldsFiles, IsBadLine, IsBadFile, unread, bad_line, IsUnreadable, bad_file, unread_file}
-use Rattle.script_loader.specs.Tokens.{IsMisspelt}
-use Rattle.script_loader.specs.Trees.{IsTreeOf, AreTrees, IsUngrammatical}
+use Rattle.script_loader.specs.Project.{most_bytes, HoldsProject, HoldsFiles, IsBadFile, unread, bad_line, IsUnreadable, bad_file, unread_file}
+use Rattle.script_loader.specs.Trees.{IsTreeOf, AreTrees}
 use Rattle.script_loader.specs.Cause.{Step, Lexing, Parsing, number_of, IsMistake, IsFirstMistake, prelude_source, LoadCause, in_prelude, unreadable, mistaken, HasTrees, AreSure, GivesTrees, GivesCause}
-use Rattle.script_loader.proofs.Lists.{each_at, each_split}
+use Rattle.script_loader.proofs.Lists.{each_at}
 use Rattle.script_loader.proofs.Order.{read_well}
 
 -- an item that stands in a list at two cuts stands at the same place, or one of them in the front of the other
@@ -111,7 +108,6 @@ one_tree source t u a b =
 -- what files hold that tell it
 
 module _ (text_at : List ℕ → Option (List ℕ)) (before after : ℕ) (whole : Rose before after → ⊥) where
-
   some_same : {A : Type 0} (x y : A) → ◌≡◌ {A = Option A} (Some x) (Some y) → x ≡ y
   some_same x y e = cc
 
@@ -162,7 +158,7 @@ module _ (text_at : List ℕ → Option (List ℕ)) (before after : ℕ) (whole 
   one_first_unread project most files e f p q = elim (places p.front p.file p.back q.front q.file q.back (sym p.split ∙ q.split)) [
     | same a x b ↦ one_unread project (most - bytes_of q.sources) (name_of q.file) e f
         (subst (λ z. IsUnread (Some text_at) before after project (most - bytes_of q.sources) (name_of z) e) x
-          (subst (λ z. IsUnread (Some text_at) before after project (most - bytes_of z) (name_of p.file) e) (one_reading q.front p.sources q.sources (subst (λ z. AreRead (Some text_at) z p.sources) a p.read) q.read) p.unread)) q.unread
+        (subst (λ z. IsUnread (Some text_at) before after project (most - bytes_of z) (name_of p.file) e) (one_reading q.front p.sources q.sources (subst (λ z. AreRead (Some text_at) z p.sources) a p.read) q.read) p.unread)) q.unread
     | first_before m h ↦ absurd (read_all project most q.front q.sources e q.read q.within (record { front = p.front; file = p.file; back = m; split = h; sources = p.sources; read = p.read; within = p.within; unread = p.unread }))
     | second_before m h ↦ absurd (read_all project most p.front p.sources f p.read p.within (record { front = q.front; file = q.file; back = m; split = h; sources = q.sources; read = q.read; within = q.within; unread = q.unread }))
   ]

@@ -1,5 +1,5 @@
 -- The mistakes of files as refusals.
-use Rattle.std.proofs.Common.{◌≡◌, ◌⊎◌, ℕ, List, Option, Some, None, Result, Ok, Err, IfErr, inl, inr, subst, sym}
+use Rattle.std.proofs.Common.{◌≡◌, Option, Some, None, Result, Ok, Err, IfErr, inl, inr, subst, sym}
 use Rattle.sml_syntax.specs.Spelling.{Refusal}
 use Rattle.sml_syntax.specs.Tokens.{IsRefused}
 use Rattle.sml_lex.specs.Lexed.{IfRefused}

@@ -1,5 +1,5 @@
 -- The first mistake in files, and why a project isn't loaded.
-use Rattle.std.proofs.Common.{◌≡◌, ◌⊎◌, ℕ, ◌<◌, List, [], ◌∷◌, ◌++◌, Ok, Err, refl, ap, sym, ◌∙◌, inl, inr, subst, arith}
+use Rattle.std.proofs.Common.{◌≡◌, ℕ, ◌<◌, List, [], ◌∷◌, ◌++◌, refl, ap, sym, ◌∙◌, inl, inr, subst, arith}
 use Rattle.outside_world.specs.Told.{Contents}
 use Rattle.project_lines.specs.declared.project.Project.{Project}
 use Rattle.sml_syntax.specs.declared.tree.Program.{Program}

@@ -5,8 +5,7 @@ use Rattle.project_lines.specs.declared.project.ProjectFile.{ProjectFile}
 use Rattle.project_lines.specs.declared.project.ProjectFile.TheVariants as file
 use Rattle.sml_syntax.specs.declared.tree.Dec.{Dec}
 use Rattle.sml_syntax.specs.declared.tree.Program.{Program}
-use Rattle.sml_syntax.specs.Page.{all_decs, page_decs}
-use Rattle.script_loader.specs.declared.scripts.ScriptProgram.{ScriptProgram}
+use Rattle.sml_syntax.specs.Page.{all_decs}
 use Rattle.script_loader.specs.Scripts.{libraries_of, scripts_behind, scripts_among}
 
 -- none are left

@@ -1,5 +1,5 @@
 -- The reading of a project's files.
-use Rattle.std.proofs.Common.{◌≡◌, ◌⊎◌, ℕ, ◌+◌, ◌-◌, ◌≤◌, List, [], ◌∷◌, ◌++◌, length, refl, ap, sym, ◌∙◌, inl, inr, subst, arith, append_assoc, append-nil}
+use Rattle.std.proofs.Common.{◌≡◌, ℕ, ◌+◌, ◌-◌, ◌≤◌, List, [], ◌∷◌, ◌++◌, length, refl, ap, sym, ◌∙◌, inl, inr, subst, arith, append_assoc, append-nil}
 use Rattle.outside_world.specs.Told.{Contents, HoldsFile, LacksFile, HoldsLongFile, Rose}
 use Rattle.project_lines.specs.declared.project.ProjectFile.{ProjectFile}
 use Rattle.script_loader.specs.declared.source.Source.{Source}

@@ -1,5 +1,5 @@
 -- The reading of a project's files, one after another.
-use Rattle.std.specs.Prelude.{◌≡◌, ℕ, ◌+◌, ◌≤◌, List, [], ◌∷◌, ◌++◌, length}
+use Rattle.std.specs.Prelude.{◌≡◌, ℕ, ◌+◌, List, [], ◌∷◌, ◌++◌, length}
 use Rattle.outside_world.specs.Told.{Contents}
 use Rattle.project_lines.specs.declared.project.ProjectFile.{ProjectFile}
 use Rattle.script_loader.specs.declared.source.Source.{Source}

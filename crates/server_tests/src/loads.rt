@@ -28,7 +28,7 @@ const LOADS: [Load; 22] = [
             ("b", "  val x = 1 val y = 2"),
         ],
         reads: &[],
-        want: "/a|a|29|0 /b|b|30|2 ",
+        want: "/a|a|26|0 /b|b|27|2 ",
     },
     // libraries stand before each script, those behind it too
     Load {
@@ -39,7 +39,7 @@ const LOADS: [Load; 22] = [
             ("m", "val q = 1 val r = 2"),
         ],
         reads: &[],
-        want: "/a|a|32|3 ",
+        want: "/a|a|29|3 ",
     },
     // a file may be named twice, and a script may be empty
     Load {
@@ -48,7 +48,7 @@ const LOADS: [Load; 22] = [
             ("a", ""),
         ],
         reads: &[],
-        want: "/a|a|28| /b|a|28| ",
+        want: "/a|a|25| /b|a|25| ",
     },
     Load {
         files: &[],
@@ -167,7 +167,7 @@ const LOADS: [Load; 22] = [
             ("a", "fn x => fn x => x"),
         ],
         reads: &[],
-        want: "/a|a|29|0 ",
+        want: "/a|a|26|0 ",
     },
     Load {
         files: &[
@@ -175,7 +175,7 @@ const LOADS: [Load; 22] = [
             ("a/b.sml", "val x = 1;"),
         ],
         reads: &[],
-        want: "/a|a/b.sml|29|0 ",
+        want: "/a|a/b.sml|26|0 ",
     },
     Load {
         files: &[
@@ -200,7 +200,7 @@ fn push_words(text: &mut Vec<u8>, words: &[&[u8]]) -> Result<(), AllocError> {
 }
 
 // The declarations of the prelude.
-const PRELUDE_ITEMS: usize = 28;
+const PRELUDE_ITEMS: usize = 25;
 
 fn push_script(
     alloc: Global,
@@ -221,7 +221,8 @@ fn push_script(
     if let Some(dec) = items.get(PRELUDE_ITEMS) {
         text.extend_from_slice(dec.span.from.to_string(alloc)?.as_bytes())?;
     }
-    text.push(b' ')
+    text.push(b' ')?;
+    Ok(())
 }
 
 // The name of a refusal, its file and its place.
@@ -275,8 +276,8 @@ fn projects_are_loaded(rt: HostRuntime) -> Result<(), Fail> {
     let alloc = rt.alloc();
     for load in LOADS {
         let mut files = MemFiles::make(alloc, load.reads)?;
-        for (name, text) in load.files {
-            put_file(&mut files, alloc, name, text.as_bytes())?;
+        for entry in load.files {
+            put_file(&mut files, alloc, entry.0, entry.1.as_bytes())?;
         }
         let text = answer(alloc, &mut files)?;
         assert_eq!(rt; text.as_slice(), load.want.as_bytes(), "{}", load.want);
@@ -284,20 +285,22 @@ fn projects_are_loaded(rt: HostRuntime) -> Result<(), Fail> {
     Ok(())
 }
 
-// The greatest number of bytes of a project and its files.
-const MOST: usize = 1 << 20;
-
-// A project of a script and a library of so many blanks, which are loaded up to the limit.
+// A project of 30 bytes and a script of 9 leave room for so many blanks, and for no more.
 #[test]
 fn projects_have_a_limit(rt: HostRuntime) -> Result<(), Fail> {
     let alloc = rt.alloc();
-    let project = "smlserver 1\nscript /a a\nlib l\n";
-    let script = "val x = 1";
-    let left = MOST - project.len() - script.len();
-    for (blanks, want) in [(left, "/a|a|29|0 "), (left + 1, "TooLarge|site|0")] {
+    for (blanks, want) in [
+        (1_048_537, "/a|a|26|0 "),
+        (1_048_538, "TooLarge|site|0"),
+    ] {
         let mut files = MemFiles::make(alloc, &[])?;
-        put_file(&mut files, alloc, "site", project.as_bytes())?;
-        put_file(&mut files, alloc, "a", script.as_bytes())?;
+        put_file(
+            &mut files,
+            alloc,
+            "site",
+            b"smlserver 1\nscript /a a\nlib l\n",
+        )?;
+        put_file(&mut files, alloc, "a", b"val x = 1")?;
         put_file(&mut files, alloc, "l", &vec![in alloc; b' '; blanks]?)?;
         let text = answer(alloc, &mut files)?;
         assert_eq!(rt; text.as_slice(), want.as_bytes(), "{want}");

@@ -1,4 +1,4 @@
-use Rattle.std.proofs.Common.{◌≡◌, ◌≤◌, ◌++◌, ap, sym, ◌∙◌, subst, append-nil}
+use Rattle.std.proofs.Common.{◌≤◌, ◌++◌, ap, sym, ◌∙◌, subst, append-nil}
 use Rattle.script_loader.proofs.Programs.{no_scripts}
 use Rattle.script_loader.proofs.scripts.scripts_behind.Goals as goal
 

@@ -1,4 +1,4 @@
-use Rattle.std.proofs.Common.{rules, ◌≡◌, ◌≤◌, ◌++◌, ◌∷◌, [], length, drop, ◌+◌, ◌∙◌, arith}
+use Rattle.std.proofs.Common.{rules, drop, ◌+◌, ◌∙◌, arith}
 use Rattle.script_loader.proofs.Lists.{at_item}
 use Rattle.script_loader.proofs.Read.{one_read, first_unread}
 use Rattle.script_loader.proofs.source.read_sources.Goals as goal

@@ -1,4 +1,4 @@
-use Rattle.std.proofs.Common.{rules, drop, ◌≡◌, ◌+◌, subst, sym, ◌∙◌, ap, arith}
+use Rattle.std.proofs.Common.{drop, ◌+◌, subst, sym}
 use Rattle.std.proofs.lemmas.List.{drop_all}
 use Rattle.script_loader.specs.Lists.{SoFar}
 use Rattle.script_loader.specs.Tokens.{IsLexed}
