@@ -289,10 +289,7 @@ fn projects_are_loaded(rt: HostRuntime) -> Result<(), Fail> {
 #[test]
 fn projects_have_a_limit(rt: HostRuntime) -> Result<(), Fail> {
     let alloc = rt.alloc();
-    for (blanks, want) in [
-        (1_048_537, "/a|a|26|0 "),
-        (1_048_538, "TooLarge|site|0"),
-    ] {
+    for (blanks, want) in [(1_048_537, "/a|a|26|0 "), (1_048_538, "TooLarge|site|0")] {
         let mut files = MemFiles::make(alloc, &[])?;
         put_file(
             &mut files,
