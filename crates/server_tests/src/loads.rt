@@ -271,14 +271,19 @@ fn put_file(files: &mut MemFiles, alloc: Global, name: &str, bytes: &[u8]) -> Re
     Ok(())
 }
 
+fn files_of(alloc: Global, texts: &[(&str, &str)], reads: &[u64]) -> Result<MemFiles, Fail> {
+    let mut files = MemFiles::make(alloc, reads)?;
+    for entry in texts {
+        put_file(&mut files, alloc, entry.0, entry.1.as_bytes())?;
+    }
+    Ok(files)
+}
+
 #[test]
 fn projects_are_loaded(rt: HostRuntime) -> Result<(), Fail> {
     let alloc = rt.alloc();
     for load in LOADS {
-        let mut files = MemFiles::make(alloc, load.reads)?;
-        for entry in load.files {
-            put_file(&mut files, alloc, entry.0, entry.1.as_bytes())?;
-        }
+        let mut files = files_of(alloc, load.files, load.reads)?;
         let text = answer(alloc, &mut files)?;
         assert_eq!(rt; text.as_slice(), load.want.as_bytes(), "{}", load.want);
     }
