@@ -102,7 +102,7 @@ const LOADS: [Load; 22] = [
     Load {
         files: &[
             ("site", "smlserver 1\nscript /a a\nscript /b b\n"),
-            ("a", "val x = ?"),
+            ("a", "val x = ."),
             ("b", "(* a"),
         ],
         reads: &[],
