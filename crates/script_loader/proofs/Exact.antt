@@ -1,134 +1,254 @@
--- A text is the file of one project at most, or has one first bad line, and never both.
-use Rattle.std.proofs.Common.{◌≡◌, ℕ, ◌+◌, ◌<◌, true, false, List, [], ◌∷◌, ◌++◌, length, Result, Ok, Err, IfOk, IfErr, refl, ap, sym, ◌∙◌, inl, inr, subst, arith, append-nil}
+-- Where files tell what they hold and no read fails, a project has one cause of refusal, or one list of trees, and never both.
+use Rattle.std.proofs.Common.{◌≡◌, ℕ, ◌+◌, ◌-◌, ◌<◌, ◌≤◌, List, [], ◌∷◌, ◌++◌, length, Option, Some, Result, Ok, Err, IfOk, IfErr, refl, ap, sym, ◌∙◌, inl, inr, subst, arith}
 use Rattle.std.proofs.lemmas.Bool.{cases_lt}
-use Rattle.sml_syntax.proofs.Lists.{cons_parts, nil_parts, same_cut, front_of_front}
-use Rattle.script_loader.specs.declared.line.Line.{Line}
-use Rattle.script_loader.specs.declared.project.Project.{Project}
-use Rattle.script_loader.specs.declared.project.LineFault.{LineFault}
-use Rattle.script_loader.specs.declared.project.LineFault.TheVariants.{ProjectLine, TwoPaths}
-use Rattle.script_loader.specs.declared.project.ProjectRefusal.{ProjectRefusal}
-use Rattle.script_loader.specs.declared.project.ProjectRefusal.TheVariants as refusal
-use Rattle.script_loader.specs.ProjectFile.{is_skipped, IsLine, AreLines, none, skipped, line, may_follow, repeats_path, AreInOrder, IsFault, IsBadLine, IsEmpty, IsFirstBadLine, bad, empty, IsProject, project_of}
-use Rattle.script_loader.specs.Refused.{IsRefusedAs, GivesProject, GivesRefusal}
-use Rattle.script_loader.proofs.LineLaws.{line_is}
+use Rattle.outside_world.specs.Told.{Contents, Rose, HoldsFile}
+use Rattle.project_lines.specs.declared.project.Project.{Project}
+use Rattle.project_lines.specs.declared.project.ProjectFile.{ProjectFile}
+use Rattle.project_lines.specs.ProjectFile.{IsProject, IsFirstBadLine}
+use Rattle.project_lines.proofs.Exact as lines
+use Rattle.sml_syntax.specs.declared.tree.Program.{Program}
+use Rattle.sml_syntax.proofs.Lists.{cons_parts, same_cut}
+use Rattle.sml_lex.proofs.Unique.{one-partition, one-refusal, not-both}
+use Rattle.sml_parse.specs.Parsed.{parsed}
+use Rattle.script_loader.specs.declared.refusal.LoadRefusal.{LoadRefusal}
+use Rattle.script_loader.specs.declared.source.Source.{Source}
+use Rattle.script_loader.specs.declared.load.ProjectTrees.{ProjectTrees}
+use Rattle.script_loader.specs.Lists.{Each, none, one}
+use Rattle.script_loader.specs.Refusals.{IsTold, lexical, grammatical, fault_refusal}
+use Rattle.script_loader.specs.Sources.{name_of, bytes_of, IsRead, AreRead, IsUnread, absent, failed, long, IsFirstUnread}
+use Rattle.script_loader.specs.Project.{most_bytes, HoldsProject, HoldsFiles, IsBadFile, unread, bad_line, IsUnreadable, bad_file, unread_file}
+use Rattle.script_loader.specs.Trees.{IsTreeOf, AreTrees}
+use Rattle.script_loader.specs.Cause.{Step, Lexing, Parsing, number_of, IsMistake, IsFirstMistake, prelude_source, LoadCause, in_prelude, unreadable, mistaken, HasTrees, AreSure, GivesTrees, GivesCause}
+use Rattle.script_loader.proofs.Lists.{each_at}
+use Rattle.script_loader.proofs.Order.{read_well}
 
-same_line : (text : List ℕ) (k l : Line) → IsLine text k → IsLine text l → k ≡ l
-same_line text k l i j = let e = line_is text k i in let f = line_is text l j in cc
+-- an item that stands in a list at two cuts stands at the same place, or one of them in the front of the other
+pub data Places {A : Type 0} (a : List A) (x : A) (b c : List A) (y : A) (d : List A) : Type 0 where
+  same : a ≡ c → x ≡ y → b ≡ d → Places a x b c y d
+  first_before : (m : List A) → c ≡ a ++ x ∷ m → Places a x b c y d
+  second_before : (m : List A) → a ≡ c ++ y ∷ m → Places a x b c y d
 
-same_lines : {texts : List (List ℕ)} {ks ls : List Line} → AreLines texts ks → AreLines texts ls → ks ≡ ls
-same_lines none none = refl
-same_lines (skipped t e a) (skipped u f b) = same_lines a b
-same_lines (skipped t e a) (line u l f j b) = absurd (cc)
-same_lines (line t k e i a) (skipped u f b) = absurd (cc)
-same_lines (line t k e i a) (line u l f j b) = let one = same_line t k l i j in let more = same_lines a b in cc
+in_front : {A : Type 0} (a : List A) (x : A) (b c : List A) (y : A) (d : List A) → a ++ x ∷ b ≡ c ++ y ∷ d → length a < length c → (m : List A) × (c ≡ a ++ x ∷ m)
+in_front [] x b [] y d e l = absurd (omega (arith, l))
+in_front [] x b (z ∷ c) y d e l = (c, let p = cons_parts x z b (c ++ y ∷ d) e in ap (λ k. k ∷ c) (sym p.0))
+in_front (z ∷ a) x b [] y d e l = absurd (omega (arith, l))
+in_front (z ∷ a) x b (w ∷ c) y d e l =
+    let p = cons_parts z w (a ++ x ∷ b) (c ++ y ∷ d) e in
+    let more = in_front a x b c y d p.1 (omega (arith, l)) in
+    (more.0, ap (λ k. k ∷ c) (sym p.0) ∙ ap (λ k. z ∷ k) more.1)
 
--- lines of a front and of what follows
-pub record Cut (before after : List (List ℕ)) (lines : List Line) : Type 0 where
-  pub front : List Line
-  pub back : List Line
-  pub parts : lines ≡ front ++ back
-  pub in_front : AreLines before front
-  pub behind : AreLines after back
-
-cut : (before : List (List ℕ)) {all after : List (List ℕ)} {lines : List Line} → all ≡ before ++ after → AreLines all lines → Cut before after lines
-cut [] {lines = lines} e a = record { front = []; back = lines; parts = refl; in_front = none; behind = subst (λ t. AreLines t lines) e a }
-cut (b ∷ before) e none = absurd (cc)
-cut (b ∷ before) {after = after} e (skipped {texts = texts} t s a) =
-    let p = cons_parts t b texts (before ++ after) e in
-    let c = cut before p.1 a in
-    record { front = c.front; back = c.back; parts = c.parts; in_front = skipped b (subst (λ x. is_skipped x ≡ true) p.0 s) c.in_front; behind = c.behind }
-cut (b ∷ before) {after = after} e (line {texts = texts} t l s i a) =
-    let p = cons_parts t b texts (before ++ after) e in
-    let c = cut before p.1 a in
-    record { front = l ∷ c.front; back = c.back; parts = ap (λ ls. l ∷ ls) c.parts; in_front = line b l (subst (λ x. is_skipped x ≡ false) p.0 s) (subst (λ x. IsLine x l) p.0 i) c.in_front; behind = c.behind }
-
--- the line of a text that isn't skipped
-pub record Head (text : List ℕ) (lines : List Line) : Type 0 where
-  pub one : Line
-  pub more : List Line
-  pub parts : lines ≡ one ∷ more
-  pub is : IsLine text one
-
-head_of : {texts : List (List ℕ)} {lines : List Line} (text : List ℕ) (more : List (List ℕ)) → texts ≡ text ∷ more → is_skipped text ≡ false → AreLines texts lines → Head text lines
-head_of text more e s none = absurd (cc)
-head_of text more e s (skipped {texts = texts} t f a) = let p = cons_parts t text texts more e in absurd (cc)
-head_of text more e s (line {texts = texts} {lines = lines} t l f i a) =
-    let p = cons_parts t text texts more e in
-    record { one = l; more = lines; parts = refl; is = subst (λ x. IsLine x l) p.0 i }
-
-no_fault : (good : List Line) (here : List ℕ) (l : Line) (fault : LineFault) → IsLine here l → (may_follow good l ≡ true) × (repeats_path good l ≡ false) → IsFault good here fault → ⊥
-no_fault good here l ProjectLine i (m, r) f = f l i m
-no_fault good here l TwoPaths i (m, r) (k, j, n, q) = let same = same_line here k l j i in absurd (cc)
-
--- where all lines are good, none is bad
-good_all : (before : List (List ℕ)) (here : List ℕ) (after : List (List ℕ)) {all : List (List ℕ)} (good lines : List Line) (fault : LineFault) → all ≡ before ++ here ∷ after → AreLines all lines → AreInOrder lines → AreLines before good → is_skipped here ≡ false → IsFault good here fault → ⊥
-good_all before here after good lines fault e a o g s f =
-    let c = cut before e a in
-    let h = head_of here after refl s c.behind in
-    let same = same_lines c.in_front g in
-    no_fault good here h.one fault h.is (o good h.more h.one (c.parts ∙ ap (λ ls. ls ++ c.back) same ∙ ap (λ ls. good ++ ls) h.parts)) f
-
-same_fault : (good : List Line) (here : List ℕ) (f g : LineFault) → IsFault good here f → IsFault good here g → f ≡ g
-same_fault good here ProjectLine ProjectLine i j = refl
-same_fault good here ProjectLine TwoPaths i (l, j, m, r) = absurd (i l j m)
-same_fault good here TwoPaths ProjectLine (l, j, m, r) i = absurd (i l j m)
-same_fault good here TwoPaths TwoPaths i j = refl
-
-earlier_by : (p : List (List ℕ)) (h : List ℕ) (x : List (List ℕ)) (q : List (List ℕ)) (k : List ℕ) (y : List (List ℕ)) (more : List (List ℕ)) (good lines : List Line) (f : LineFault) → q ≡ p ++ more → h ∷ x ≡ more ++ (k ∷ y) → AreLines q lines → AreInOrder lines → AreLines p good → is_skipped h ≡ false → IsFault good h f → length p < length q → ⊥
-earlier_by p h x q k y [] good lines f e r a o g s i l = let short = ap length (e ∙ append-nil p) in absurd (omega (arith, l, short))
-earlier_by p h x q k y (m ∷ more) good lines f e r a o g s i l =
-    let same = cons_parts h m x (more ++ (k ∷ y)) r in
-    good_all p h more good lines f (e ∙ ap (λ z. p ++ z ∷ more) (sym same.0)) a o g s i
-
--- of two bad lines none is the earlier one
-earlier : (text : List ℕ) (m n : ℕ) (f g : LineFault) (a : IsBadLine text m f) (b : IsBadLine text n g) → length a.before < length b.before → ⊥
-earlier text m n f g a b l =
-    let (more, e, rest) = front_of_front a.before (a.here ∷ a.after) b.before (b.here ∷ b.after) (sym a.split ∙ b.split) (omega (arith, l)) in
-    earlier_by a.before a.here a.after b.before b.here b.after more a.good b.good f e rest b.lines b.in_order a.lines a.not_skipped a.bad l
-
-same_place : (text : List ℕ) (m n : ℕ) (f g : LineFault) (a : IsBadLine text m f) (b : IsBadLine text n g) → length a.before ≡ length b.before → (m ≡ n) × (f ≡ g)
-same_place text m n f g a b l =
-    let p = same_cut a.before (a.here ∷ a.after) b.before (b.here ∷ b.after) (sym a.split ∙ b.split) l in
-    let h = cons_parts a.here b.here a.after b.after p.1 in
-    let good = same_lines (subst (λ t. AreLines t a.good) p.0 a.lines) b.lines in
-    (a.number_is ∙ ap (λ k. k + 1) l ∙ sym b.number_is, same_fault b.good b.here f g (subst (λ x. IsFault x b.here f) good (subst (λ x. IsFault a.good x f) h.0 a.bad)) b.bad)
-
-same_bad : (text : List ℕ) (m n : ℕ) (f g : LineFault) → IsBadLine text m f → IsBadLine text n g → (m ≡ n) × (f ≡ g)
-same_bad text m n f g a b = elim (cases_lt (length a.before) (length b.before)) [
-  | inl l ↦ absurd (earlier text m n f g a b l)
-  | inr h ↦ elim (cases_lt (length b.before) (length a.before)) [
-    | inl l ↦ absurd (earlier text n m g f b a l)
-    | inr k ↦ same_place text m n f g a b (omega (arith, h, k))
+places : {A : Type 0} (a : List A) (x : A) (b c : List A) (y : A) (d : List A) → a ++ x ∷ b ≡ c ++ y ∷ d → Places a x b c y d
+places a x b c y d e = elim (cases_lt (length a) (length c)) [
+  | inl l ↦ (let f = in_front a x b c y d e l in first_before f.0 f.1)
+  | inr h ↦ elim (cases_lt (length c) (length a)) [
+    | inl l ↦ (let f = in_front c y d a x b (sym e) l in second_before f.0 f.1)
+    | inr k ↦ (let p = same_cut a (x ∷ b) c (y ∷ d) e (omega (arith, h, k)) in let q = cons_parts x y b d p.1 in same p.0 q.0 q.1)
   ]
 ]
 
-bad_or_empty : (text : List ℕ) (m n : ℕ) (f g : LineFault) → IsBadLine text m f → IsEmpty text n g → ⊥
-bad_or_empty text m n f g a b =
-    let c = cut a.before a.split b.lines in
-    let h = head_of a.here a.after refl a.not_skipped c.behind in
-    let p = nil_parts c.front c.back (sym c.parts) in
-    let q = h.parts in
-    absurd (cc)
+-- lists side by side
+each_same : {A B : Type 0} {R : A → B → Type 0} (xs : List A) (ys zs : List B) → ((x : A) (y z : B) → R x y → R x z → y ≡ z) → Each R xs ys → Each R xs zs → ys ≡ zs
+each_same [] [] [] f e d = refl
+each_same [] [] (z ∷ zs) f e d = elim d [ ]
+each_same [] (y ∷ ys) zs f e d = elim e [ ]
+each_same (x ∷ xs) [] zs f e d = elim e [ ]
+each_same (x ∷ xs) (y ∷ ys) [] f e d = elim d [ ]
+each_same (x ∷ xs) (y ∷ ys) (z ∷ zs) f (one r e) (one s d) = ap (λ k. k ∷ ys) (f x y z r s) ∙ ap (λ k. z ∷ k) (each_same xs ys zs f e d)
 
-pub one_refusal : (text : List ℕ) (m n : ℕ) (f g : LineFault) → IsFirstBadLine text m f → IsFirstBadLine text n g → (m ≡ n) × (f ≡ g)
-one_refusal text m n f g (bad a) (bad b) = same_bad text m n f g a b
-one_refusal text m n f g (bad a) (empty b) = absurd (bad_or_empty text m n f g a b)
-one_refusal text m n f g (empty a) (bad b) = absurd (bad_or_empty text n m g f b a)
-one_refusal text m n f g (empty a) (empty b) = (a.number_is ∙ sym b.number_is, a.fault_is ∙ sym b.fault_is)
+-- the first mistake
 
-pub one_project : (text : List ℕ) (p q : Project) → IsProject text p → IsProject text q → p ≡ q
-one_project text p q a b = a.is ∙ ap project_of (same_lines a.lines b.lines) ∙ sym b.is
+one_mistake : (step : Step) (file : Source) (e f : LoadRefusal) → IsMistake step file e → IsMistake step file f → e ≡ f
+one_mistake Lexing file e f m n = m.told ∙ ap (lexical file.name) (one-refusal m.refused n.refused) ∙ sym n.told
+one_mistake Parsing file e f m n =
+    let tokens = one-partition m.has n.has in
+    let both = sym m.refused ∙ ap parsed tokens ∙ n.refused in
+    let found : m.refusal ≡ n.refusal = cc in
+    m.told ∙ ap (grammatical file.name) found ∙ sym n.told
 
-pub never_both : (text : List ℕ) (p : Project) (n : ℕ) (f : LineFault) → IsProject text p → IsFirstBadLine text n f → ⊥
-never_both text p n f a (bad b) = good_all b.before b.here b.after b.good (a.first ∷ a.more) f b.split a.lines a.in_order b.lines b.not_skipped b.bad
-never_both text p n f a (empty b) = let same = same_lines a.lines b.lines in absurd (cc)
+same_step : (files : List Source) (e f : LoadRefusal) (p : IsFirstMistake files e) (q : IsFirstMistake files f) → p.step ≡ q.step → e ≡ f
+same_step files e f p q s = elim (places p.before p.here p.after q.before q.here q.after (sym p.split ∙ q.split)) [
+  | same a x b ↦ one_mistake q.step q.here e f (subst (λ z. IsMistake q.step z e) x (subst (λ z. IsMistake z p.here e) s p.mistake)) q.mistake
+  | first_before m h ↦ absurd (q.no_earlier_file p.before m p.here e h (subst (λ z. IsMistake z p.here e) s p.mistake))
+  | second_before m h ↦ absurd (p.no_earlier_file q.before m q.here f h (subst (λ z. IsMistake z q.here f) (sym s) q.mistake))
+]
 
-pub gives_project : (text : List ℕ) (result : Result Project ProjectRefusal) (p : Project) → IfOk result (IsProject text) → IfErr result (IsRefusedAs text) → IsProject text p → GivesProject result p
-gives_project text (Ok q) p ok err i = inl (ap Ok (one_project text q p ok i))
-gives_project text (Err (refusal.Line n f)) p ok err i = absurd (never_both text p n f i err)
-gives_project text (Err refusal.NoMemory) p ok err i = inr refl
+earlier_step : (files : List Source) (e f : LoadRefusal) (p : IsFirstMistake files e) (q : IsFirstMistake files f) → number_of p.step < number_of q.step → ⊥
+earlier_step files e f p q l = q.no_earlier_step p.step p.before p.after p.here e l p.split p.mistake
 
-pub gives_refusal : (text : List ℕ) (result : Result Project ProjectRefusal) (n : ℕ) (f : LineFault) → IfOk result (IsProject text) → IfErr result (IsRefusedAs text) → IsFirstBadLine text n f → GivesRefusal result n f
-gives_refusal text (Ok q) n f ok err i = absurd (never_both text q n f ok i)
-gives_refusal text (Err (refusal.Line m g)) n f ok err i = let same = one_refusal text m n g f err i in inl (ap (λ k. Err (refusal.Line k g)) same.0 ∙ ap (λ k. Err (refusal.Line n k)) same.1)
-gives_refusal text (Err refusal.NoMemory) n f ok err i = inr refl
+same_number : (s t : Step) → number_of s ≡ number_of t → s ≡ t
+same_number Lexing Lexing e = refl
+same_number Lexing Parsing e = absurd (omega (arith, e))
+same_number Parsing Lexing e = absurd (omega (arith, e))
+same_number Parsing Parsing e = refl
+
+pub one_first_mistake : (files : List Source) (e f : LoadRefusal) → IsFirstMistake files e → IsFirstMistake files f → e ≡ f
+one_first_mistake files e f p q = elim (cases_lt (number_of p.step) (number_of q.step)) [
+  | inl l ↦ absurd (earlier_step files e f p q l)
+  | inr h ↦ elim (cases_lt (number_of q.step) (number_of p.step)) [
+    | inl l ↦ absurd (earlier_step files f e q p l)
+    | inr k ↦ same_step files e f p q (same_number p.step q.step (omega (arith, h, k)))
+  ]
+]
+
+spelt_well : (source : Source) (tree : Program) (step : Step) (e : LoadRefusal) → IsTreeOf source tree → IsMistake step source e → ⊥
+spelt_well source tree Lexing e t m = not-both t.is.has m.refused
+spelt_well source tree Parsing e t m = read_well source tree e t m
+
+pub no_mistake : (files : List Source) (trees : List Program) (e : LoadRefusal) → AreTrees files trees → IsFirstMistake files e → ⊥
+no_mistake files trees e each p =
+    let found = each_at p.before p.here p.after trees (subst (λ fs. AreTrees fs trees) p.split each) in
+    spelt_well p.here found.0 p.step e found.1 p.mistake
+
+one_tree : (source : Source) (t u : Program) → IsTreeOf source t → IsTreeOf source u → t ≡ u
+one_tree source t u a b =
+    let tokens = one-partition a.is.has b.is.has in
+    let both = sym a.is.read ∙ ap parsed tokens ∙ b.is.read in
+    cc
+
+-- what files hold that tell it
+
+module _ (text_at : List ℕ → Option (List ℕ)) (before after : ℕ) (whole : Rose before after → ⊥) where
+  some_same : {A : Type 0} (x y : A) → ◌≡◌ {A = Option A} (Some x) (Some y) → x ≡ y
+  some_same x y e = cc
+
+  one_text : (name s t : List ℕ) → HoldsFile (Some text_at) name s → HoldsFile (Some text_at) name t → s ≡ t
+  one_text name s t h k = some_same s t (sym h ∙ k)
+
+  -- a file that is held within what is left is read
+  held_well : (project : List ℕ) (left : ℕ) (name text : List ℕ) (e : LoadRefusal) → HoldsFile (Some text_at) name text → length text ≤ left → IsUnread (Some text_at) before after project left name e → ⊥
+  held_well project left name text _ h w (absent a) = let both = sym h ∙ a in absurd (cc)
+  held_well project left name text _ h w (failed r) = whole r
+  held_well project left name text _ h w (long (t, k, l)) = let same = ap length (one_text name text t h k) in omega (arith, same, w, l)
+
+  one_unread : (project : List ℕ) (left : ℕ) (name : List ℕ) (e f : LoadRefusal) → IsUnread (Some text_at) before after project left name e → IsUnread (Some text_at) before after project left name f → e ≡ f
+  one_unread project left name _ _ (absent a) (absent b) = refl
+  one_unread project left name _ _ (absent a) (failed r) = refl
+  one_unread project left name _ _ (absent a) (long (t, k, l)) = let both = sym k ∙ a in absurd (cc)
+  one_unread project left name _ _ (failed r) q = absurd (whole r)
+  one_unread project left name _ _ (long (t, k, l)) (absent a) = let both = sym k ∙ a in absurd (cc)
+  one_unread project left name _ _ (long (t, k, l)) (failed r) = absurd (whole r)
+  one_unread project left name _ _ (long a) (long b) = refl
+
+  one_source : (file : ProjectFile) (s t : Source) → IsRead (Some text_at) file s → IsRead (Some text_at) file t → s ≡ t
+  one_source file s t a b = ap (λ n. record { name = n; text = s.text }) (a.name_is ∙ sym b.name_is) ∙ ap (λ w. record { name = t.name; text = w }) (one_text (name_of file) s.text t.text a.held b.held)
+
+  one_reading : (files : List ProjectFile) (s t : List Source) → AreRead (Some text_at) files s → AreRead (Some text_at) files t → s ≡ t
+  one_reading files s t a b = each_same files s t one_source a b
+
+  -- where all are read within the limit, none is unread
+  bytes_in : (front : List ProjectFile) (file : ProjectFile) (back : List ProjectFile) (read sources : List Source) → AreRead (Some text_at) front read → AreRead (Some text_at) (front ++ file ∷ back) sources → (text : List ℕ) × HoldsFile (Some text_at) (name_of file) text × (bytes_of read + length text ≤ bytes_of sources)
+  bytes_in [] file back [] [] f a = elim a [ ]
+  bytes_in [] file back [] (s ∷ sources) f (one r d) = (s.text, r.held, omega arith)
+  bytes_in [] file back (r ∷ read) sources f a = elim f [ ]
+  bytes_in (x ∷ front) file back [] sources f a = elim f [ ]
+  bytes_in (x ∷ front) file back (r ∷ read) [] f a = elim a [ ]
+  bytes_in (x ∷ front) file back (r ∷ read) (s ∷ sources) (one g f) (one h d) =
+      let found = bytes_in front file back read sources f d in
+      let same = ap length (one_text (name_of x) r.text s.text g.held h.held) in
+      let sum = found.2 in
+      (found.0, found.1, omega (arith, same, sum))
+
+  read_all : (project : List ℕ) (most : ℕ) (files : List ProjectFile) (sources : List Source) (e : LoadRefusal) → AreRead (Some text_at) files sources → bytes_of sources ≤ most → IsFirstUnread (Some text_at) before after project most files e → ⊥
+  read_all project most files sources e a w u =
+      let found = bytes_in u.front u.file u.back u.sources sources u.read (subst (λ fs. AreRead (Some text_at) fs sources) u.split a) in
+      let sum = found.2 in
+      held_well project (most - bytes_of u.sources) (name_of u.file) found.0 e found.1 (omega (arith, sum, w)) u.unread
+
+  one_first_unread : (project : List ℕ) (most : ℕ) (files : List ProjectFile) (e f : LoadRefusal) → IsFirstUnread (Some text_at) before after project most files e → IsFirstUnread (Some text_at) before after project most files f → e ≡ f
+  one_first_unread project most files e f p q = elim (places p.front p.file p.back q.front q.file q.back (sym p.split ∙ q.split)) [
+    | same a x b ↦ one_unread project (most - bytes_of q.sources) (name_of q.file) e f
+        (subst (λ z. IsUnread (Some text_at) before after project (most - bytes_of q.sources) (name_of z) e) x
+        (subst (λ z. IsUnread (Some text_at) before after project (most - bytes_of z) (name_of p.file) e) (one_reading q.front p.sources q.sources (subst (λ z. AreRead (Some text_at) z p.sources) a p.read) q.read) p.unread)) q.unread
+    | first_before m h ↦ absurd (read_all project most q.front q.sources e q.read q.within (record { front = p.front; file = p.file; back = m; split = h; sources = p.sources; read = p.read; within = p.within; unread = p.unread }))
+    | second_before m h ↦ absurd (read_all project most p.front p.sources f p.read p.within (record { front = q.front; file = q.file; back = m; split = h; sources = q.sources; read = q.read; within = q.within; unread = q.unread }))
+  ]
+
+  -- the project file
+
+  one_project : (name : List ℕ) (p q : Project) (l k : ℕ) → HoldsProject (Some text_at) name p l → HoldsProject (Some text_at) name q k → (p ≡ q) × (l ≡ k)
+  one_project name p q l k a b =
+      let text = one_text name a.text b.text a.held b.held in
+      let size = ap length text in
+      let one_sum = a.bytes in
+      let two_sum = b.bytes in
+      (lines.one_project b.text p q (subst (λ t. IsProject t p) text a.is) b.is, omega (arith, size, one_sum, two_sum))
+
+  good_file : (name : List ℕ) (p : Project) (l : ℕ) (e : LoadRefusal) → HoldsProject (Some text_at) name p l → IsBadFile (Some text_at) before after name e → ⊥
+  good_file name p l e h (unread u) = let sum = h.bytes in held_well name most_bytes name h.text e h.held (omega (arith, sum)) u
+  good_file name p l e h (bad_line b) = lines.never_both b.text p b.number b.fault (subst (λ t. IsProject t p) (one_text name h.text b.text h.held b.held) h.is) b.first
+
+  one_bad_file : (name : List ℕ) (e f : LoadRefusal) → IsBadFile (Some text_at) before after name e → IsBadFile (Some text_at) before after name f → e ≡ f
+  one_bad_file name e f (unread u) (unread v) = one_unread name most_bytes name e f u v
+  one_bad_file name e f (unread u) (bad_line b) = absurd (held_well name most_bytes name b.text e b.held b.within u)
+  one_bad_file name e f (bad_line b) (unread u) = absurd (held_well name most_bytes name b.text f b.held b.within u)
+  one_bad_file name e f (bad_line a) (bad_line b) =
+      let same_text = one_text name a.text b.text a.held b.held in
+      let found = lines.one_refusal b.text a.number b.number a.fault b.fault (subst (λ t. IsFirstBadLine t a.number a.fault) same_text a.first) b.first in
+      a.told ∙ ap (λ n. fault_refusal name n a.fault) found.0 ∙ ap (fault_refusal name b.number) found.1 ∙ sym b.told
+
+  one_unreadable : (name : List ℕ) (e f : LoadRefusal) → IsUnreadable (Some text_at) before after name e → IsUnreadable (Some text_at) before after name f → e ≡ f
+  one_unreadable name e f (bad_file a) (bad_file b) = one_bad_file name e f a b
+  one_unreadable name e f (bad_file a) (unread_file p l h u) = absurd (good_file name p l e h a)
+  one_unreadable name e f (unread_file p l h u) (bad_file b) = absurd (good_file name p l f h b)
+  one_unreadable name e f (unread_file p l h u) (unread_file q k i v) =
+      let found = one_project name p q l k h i in
+      one_first_unread name k q.files e f (subst (λ z. IsFirstUnread (Some text_at) before after name z q.files e) found.1 (subst (λ z. IsFirstUnread (Some text_at) before after name l z.files e) found.0 u)) v
+
+  -- the texts of the files
+
+  one_files : (name : List ℕ) (p q : Project) (s t : List Source) → HoldsFiles (Some text_at) name p s → HoldsFiles (Some text_at) name q t → (p ≡ q) × (s ≡ t)
+  one_files name p q s t a b =
+      let found = one_project name p q a.left b.left a.holds b.holds in
+      (found.0, one_reading q.files s t (subst (λ z. AreRead (Some text_at) z.files s) found.0 a.read) b.read)
+
+  readable : (name : List ℕ) (p : Project) (s : List Source) (e : LoadRefusal) → HoldsFiles (Some text_at) name p s → IsUnreadable (Some text_at) before after name e → ⊥
+  readable name p s e h (bad_file b) = good_file name p h.left e h.holds b
+  readable name p s e h (unread_file q k i v) =
+      let found = one_project name q p k h.left i h.holds in
+      read_all name h.left p.files s e h.read h.within (subst (λ z. IsFirstUnread (Some text_at) before after name z p.files e) found.1 (subst (λ z. IsFirstUnread (Some text_at) before after name k z.files e) found.0 v))
+
+  -- the whole
+
+  good_prelude : (tree : Program) (e : LoadRefusal) → IsTreeOf prelude_source tree → IsFirstMistake (prelude_source ∷ []) e → ⊥
+  good_prelude tree e t m = no_mistake (prelude_source ∷ []) (tree ∷ []) e (one t none) m
+
+  one_cause : (name : List ℕ) (e f : LoadRefusal) → LoadCause (Some text_at) before after name e → LoadCause (Some text_at) before after name f → e ≡ f
+  one_cause name e f (in_prelude m) (in_prelude n) = one_first_mistake (prelude_source ∷ []) e f m n
+  one_cause name e f (in_prelude m) (unreadable t i u) = absurd (good_prelude t e i m)
+  one_cause name e f (in_prelude m) (mistaken t i p s h n) = absurd (good_prelude t e i m)
+  one_cause name e f (unreadable t i u) (in_prelude n) = absurd (good_prelude t f i n)
+  one_cause name e f (unreadable t i u) (unreadable v j w) = one_unreadable name e f u w
+  one_cause name e f (unreadable t i u) (mistaken v j p s h n) = absurd (readable name p s e h u)
+  one_cause name e f (mistaken t i p s h m) (in_prelude n) = absurd (good_prelude t f i n)
+  one_cause name e f (mistaken t i p s h m) (unreadable v j w) = absurd (readable name p s f h w)
+  one_cause name e f (mistaken t i p s h m) (mistaken v j q r k n) =
+      let found = one_files name p q s r h k in
+      one_first_mistake r e f (subst (λ z. IsFirstMistake z e) found.1 m) n
+
+  no_cause : (name : List ℕ) (trees : ProjectTrees) (e : LoadRefusal) → HasTrees (Some text_at) name trees → LoadCause (Some text_at) before after name e → ⊥
+  no_cause name trees e h (in_prelude m) = good_prelude trees.prelude e h.of_prelude m
+  no_cause name trees e h (unreadable t i u) = readable name trees.project h.sources e h.held u
+  no_cause name trees e h (mistaken t i p s k m) =
+      let found = one_files name p trees.project s h.sources k h.held in
+      no_mistake h.sources trees.trees e h.of_files (subst (λ z. IsFirstMistake z e) found.1 m)
+
+  one_load : (name : List ℕ) (a b : ProjectTrees) → HasTrees (Some text_at) name a → HasTrees (Some text_at) name b → a ≡ b
+  one_load name a b h k =
+      let found = one_files name a.project b.project h.sources k.sources h.held k.held in
+      let prelude = one_tree prelude_source a.prelude b.prelude h.of_prelude k.of_prelude in
+      let trees = each_same k.sources a.trees b.trees one_tree (subst (λ z. AreTrees z a.trees) found.1 h.of_files) k.of_files in
+      ap (λ z. record { project = z; prelude = a.prelude; trees = a.trees }) found.0
+      ∙ ap (λ z. record { project = b.project; prelude = z; trees = a.trees }) prelude
+      ∙ ap (λ z. record { project = b.project; prelude = b.prelude; trees = z }) trees
+
+-- what a load answers
+
+pub gives_trees : (contents : Contents) (before after : ℕ) (name : List ℕ) (result : Result ProjectTrees LoadRefusal) (trees : ProjectTrees) → IfOk result (HasTrees contents name) → IfErr result (IsTold (LoadCause contents before after name)) → AreSure contents before after → HasTrees contents name trees → GivesTrees result trees
+gives_trees contents before after name (Ok t) trees ok err sure h = inl (ap Ok (one_load sure.text_at before after sure.whole name t trees (subst (λ c. HasTrees c name t) sure.told ok) (subst (λ c. HasTrees c name trees) sure.told h)))
+gives_trees contents before after name (Err e) trees ok (inl c) sure h = absurd (no_cause sure.text_at before after sure.whole name trees e (subst (λ c. HasTrees c name trees) sure.told h) (subst (λ k. LoadCause k before after name e) sure.told c))
+gives_trees contents before after name (Err e) trees ok (inr m) sure h = inr (ap Err m)
+
+pub gives_cause : (contents : Contents) (before after : ℕ) (name : List ℕ) (result : Result ProjectTrees LoadRefusal) (f : LoadRefusal) → IfOk result (HasTrees contents name) → IfErr result (IsTold (LoadCause contents before after name)) → AreSure contents before after → LoadCause contents before after name f → GivesCause result f
+gives_cause contents before after name (Ok t) f ok err sure c = absurd (no_cause sure.text_at before after sure.whole name t f (subst (λ k. HasTrees k name t) sure.told ok) (subst (λ k. LoadCause k before after name f) sure.told c))
+gives_cause contents before after name (Err e) f ok (inl d) sure c = inl (ap Err (one_cause sure.text_at before after sure.whole name e f (subst (λ k. LoadCause k before after name e) sure.told d) (subst (λ k. LoadCause k before after name f) sure.told c)))
+gives_cause contents before after name (Err e) f ok (inr m) sure c = inr (ap Err m)

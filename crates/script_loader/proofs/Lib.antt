@@ -1,9 +1,6 @@
-mod Options
-mod Parents
-mod Fronts
-mod Numbers
-mod Cuts
-mod LineLaws
-mod Taking
-mod Summaries
-mod Exact
+pub mod Lists
+pub mod Read
+pub mod Faults
+pub mod Order
+pub mod Programs
+pub mod Exact

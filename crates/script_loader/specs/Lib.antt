@@ -1,4 +1,9 @@
-pub mod Names
-pub mod ProjectFile
+pub mod Lists
+pub mod Refusals
+pub mod Sources
 pub mod Reading
-pub mod Refused
+pub mod Project
+pub mod Tokens
+pub mod Trees
+pub mod Cause
+pub mod Scripts

@@ -1,198 +1,58 @@
-// A project, as its file has it.
-ghost use Rattle.std.specs.Prelude.{◌≡◌, ◌++◌, ℕ, IfOk, IfErr, OnOk};
-ghost use Rattle.script_loader.specs.ProjectFile.{file_in, database_in, budget_in, pages_in, project_of, IsProject, IsFirstBadLine};
-ghost use Rattle.script_loader.specs.declared.project.Project.{Project as ProjectSeen};
-ghost use Rattle.script_loader.specs.declared.project.LineFault.{LineFault as FaultSeen};
-ghost use Rattle.script_loader.specs.Refused.{AreGood, TakesLine, IsLineRefusal, IsRefusedAs, IsLinesRefusal, GivesProject, GivesRefusal};
+// A project file, and the files that it names.
+ghost use Rattle.std.specs.Prelude.{◌≡◌, ◌≤◌, IfOk, IfErr};
+ghost use Rattle.script_loader.specs.Refusals.{IsTold};
+ghost use Rattle.script_loader.specs.Project.{HoldsProject, HoldsFiles, IsBadFile, IsUnreadable};
 
-use crate::line::{Line, read_line};
-use crate::lines::{first_line, is_skipped};
-use crate::order::{may_follow, repeats_path};
-use sml_syntax::{Listed, NoMemory, Text};
-use std::alloc::{AllocFailed, Global};
+use crate::refusal::{LoadRefusal, line_refusal};
+use crate::source::{Source, read_sources, read_text};
+use outside_world::Files;
+use project_lines::{Project, read_project};
+use sml_syntax::Text;
+use std::alloc::Global;
 
-/// A file that a project names.
-#[derive(Debug, Drop, PartialEq, Eq)]
-pub enum ProjectFile {
-    Library(Text),
-    /// The path of requests, and the file of the script.
-    Script(Text, Text),
-}
+/// The greatest number of bytes of a project file and the files that it names.
+const MOST: u64 = 1 << 20;
 
-/// What a project file says.
-#[derive(Debug, Drop, PartialEq, Eq)]
-pub struct Project {
-    /// Libraries and scripts, in the order of their lines.
-    pub files: Listed<ProjectFile>,
-    /// The names of the databases.
-    pub databases: Listed<Text>,
-    /// The greatest charge of a request.
-    pub budget: u64,
-    /// The pages of all requests together.
-    pub pages: u64,
-}
-
-/// What is wrong with a line of a project file.
-#[derive(Clone, Copy, Debug, PartialEq, Eq)]
-pub enum LineFault {
-    /// It says nothing that may stand there.
-    ProjectLine,
-    /// Its path stands in an earlier line.
-    TwoPaths,
-}
-
-/// Why a text is no project.
-#[derive(Clone, Copy, Debug, PartialEq, Eq)]
-pub enum ProjectRefusal {
-    /// The number of the first bad line, from 1.
-    Line(u64, LineFault),
-    NoMemory,
-}
-
-impl From<NoMemory> for ProjectRefusal {
-    ghost use Rattle.script_loader.specs.declared.project.ProjectRefusal.TheVariants as refusal;
-
-    ghost from_gives = { λ _ e. e ≡ refusal.NoMemory };
-
-    fn from(_: NoMemory) -> ProjectRefusal {
-        ProjectRefusal::NoMemory
-    }
-}
-
-impl<T: Drop> From<AllocFailed<T>> for ProjectRefusal {
-    ghost use Rattle.script_loader.specs.declared.project.ProjectRefusal.TheVariants as refusal;
-
-    ghost from_gives = { λ _ e. e ≡ refusal.NoMemory };
-
-    fn from(_: AllocFailed<T>) -> ProjectRefusal {
-        ProjectRefusal::NoMemory
-    }
-}
-
-// Adds what a line says, unless it is skipped.
-#[tactic(auto, using(crate::proofs::Taking::says_nothing, crate::proofs::Taking::no_place, crate::proofs::Taking::path_twice, crate::proofs::Taking::skips_line, crate::proofs::Taking::adds_line))]
-fn take_line(
-    alloc: Global,
-    lines: &mut Vec<Line>,
-    text: &[u8],
-    number: u64,
-) -> Result<(), ProjectRefusal>
-    ensures ok { OnOk result (TakesLine lines.old.items text.now lines.new.items) }
-    ensures refused { IfErr result (IsLineRefusal lines.old.items text.now number) }
-{
-    if is_skipped(text) {
-        return Ok(());
-    }
-    let Some(line) = read_line(alloc, text)? else {
-        return Err(ProjectRefusal::Line(number, LineFault::ProjectLine));
-    };
-    if !may_follow(lines, &line) {
-        return Err(ProjectRefusal::Line(number, LineFault::ProjectLine));
-    }
-    if repeats_path(lines, &line) {
-        return Err(ProjectRefusal::Line(number, LineFault::TwoPaths));
-    }
-    lines.push(line)?;
-    Ok(())
-}
-
-// What the lines of a text say, where each may stand where it does.
-#[tactic(auto, using(crate::proofs::Taking::none_taken, crate::proofs::Taking::taken_more, crate::proofs::Taking::all_taken, crate::proofs::Taking::line_refused))]
-fn read_lines(alloc: Global, text: &[u8]) -> Result<Vec<Line>, ProjectRefusal>
-    ensures ok { IfOk result (λ lines. AreGood text.now lines.items) }
-    ensures refused { IfErr result (IsLinesRefusal text.now) }
-{
-    let mut lines = Vec::new(alloc);
-    let mut rest = text;
-    let mut number = 0;
-    while !rest.is_empty() {
-        let (line, more) = first_line(rest);
-        number += 1;
-        take_line(alloc, &mut lines, line, number)?;
-        rest = more;
-    }
-    Ok(lines)
-}
-
-// A project that is being put together.
+/// A project, and the files that it names with their texts.
 #[derive(Drop)]
-struct Draft {
-    files: Vec<ProjectFile>,
-    databases: Vec<Text>,
-    budget: u64,
-    pages: u64,
+pub(crate) struct ProjectSources {
+    pub project: Project,
+    pub sources: Vec<Source>,
 }
 
-impl Draft {
-    // Adds what a line says.
-    #[tactic(auto, using(crate::proofs::Summaries::none_more))]
-    fn add(&mut self, line: Line) -> Result<(), NoMemory>
-        ensures files { OnOk result (self.new.files.items ≡ self.old.files.items ++ file_in line) }
-        ensures databases { OnOk result (self.new.databases.items ≡ self.old.databases.items ++ database_in line) }
-        ensures budget { OnOk result (self.new.budget ≡ budget_in self.old.budget line) }
-        ensures pages { OnOk result (self.new.pages ≡ pages_in self.old.pages line) }
-    {
-        match line {
-            Line::Header => (),
-            Line::Library(file) => self.files.push(ProjectFile::Library(file))?,
-            Line::Script(path, file) => self.files.push(ProjectFile::Script(path, file))?,
-            Line::Database(name) => self.databases.push(name)?,
-            Line::Budget(n) => self.budget = n,
-            Line::Pages(n) => self.pages = n,
-        }
-        Ok(())
+// The project, and how many bytes are left of the limit.
+#[tactic(auto, using(crate::proofs::Read::told_bad_line, crate::proofs::Read::told_unread))]
+fn read_file<F: Files>(
+    alloc: Global,
+    files: &mut F,
+    name: &Text,
+) -> Result<(Project, u64), LoadRefusal>
+    ensures read { IfOk result (λ read. HoldsProject (F.contents files.old) name.now read.0 read.1) }
+    ensures refused { IfErr result (IsTold (IsBadFile (F.contents files.old) (F.file_count files.old) (F.file_count files.new) name.now)) }
+    ensures same { F.contents files.new ≡ F.contents files.old }
+    ensures count { F.file_count files.old ≤ F.file_count files.new }
+    ensures keeps { F.kept files.new ≡ F.kept files.old }
+{
+    let text = read_text(alloc, files, name, name, MOST)?;
+    match read_project(alloc, text.as_bytes()) {
+        Ok(project) => Ok((project, MOST - text.len())),
+        Err(refusal) => Err(line_refusal(alloc, name, refusal)),
     }
 }
 
-// The project that lines make.
-#[tactic(auto, using(crate::proofs::Summaries::files_more, crate::proofs::Summaries::databases_more, crate::proofs::Summaries::budget_more, crate::proofs::Summaries::pages_more))]
-fn project_of(alloc: Global, lines: Vec<Line>) -> Result<Project, NoMemory>
-    ensures { IfOk result (λ project. project ≡ project_of lines.items) }
+/// The project of this name, and the files that it names.
+pub(crate) fn read_files<F: Files>(
+    alloc: Global,
+    files: &mut F,
+    name: &Text,
+) -> Result<ProjectSources, LoadRefusal>
+    ensures read { IfOk result (λ read. HoldsFiles (F.contents files.old) name.now read.project read.sources.items) }
+    ensures refused { IfErr result (IsTold (IsUnreadable (F.contents files.old) (F.file_count files.old) (F.file_count files.new) name.now)) }
+    ensures same { F.contents files.new ≡ F.contents files.old }
+    ensures count { F.file_count files.old ≤ F.file_count files.new }
+    ensures keeps { F.kept files.new ≡ F.kept files.old }
 {
-    let mut draft = Draft {
-        files: Vec::new(alloc),
-        databases: Vec::new(alloc),
-        budget: 50_000_000,
-        pages: 16_384,
-    };
-    for line in lines {
-        draft.add(line)?;
-    }
-    let Draft {
-        files,
-        databases,
-        budget,
-        pages,
-    } = draft;
-    Ok(Project {
-        files: Listed::of(files),
-        databases: Listed::of(databases),
-        budget,
-        pages,
-    })
-}
-
-/// The project of a text. After a refusal nothing is held back.
-#[tactic(auto, using(crate::proofs::Exact::gives_refusal))]
-pub fn read_project(alloc: Global, text: &[u8]) -> Result<Project, ProjectRefusal>
-    ensures project { IfOk result (IsProject text.now) }
-    ensures refused { IfErr result (IsRefusedAs text.now) }
-
-    // Each comes wherever it may, unless memory is wanting.
-    ensures project_where { (project : ProjectSeen) → IsProject text.now project → GivesProject result project }
-    ensures refused_where { (number : ℕ) → (fault : FaultSeen) → IsFirstBadLine text.now number fault → GivesRefusal result number fault }
-{
-    find_project(alloc, text)
-}
-
-#[tactic(auto, using(crate::proofs::Taking::is_empty, crate::proofs::Taking::is_refused))]
-fn find_project(alloc: Global, text: &[u8]) -> Result<Project, ProjectRefusal>
-    ensures project { IfOk result (IsProject text.now) }
-    ensures refused { IfErr result (IsRefusedAs text.now) }
-{
-    let lines = read_lines(alloc, text)?;
-    if lines.is_empty() {
-        return Err(ProjectRefusal::Line(1, LineFault::ProjectLine));
-    }
-    Ok(project_of(alloc, lines)?)
+    let (project, left) = read_file(alloc, files, name)?;
+    let sources = read_sources(alloc, files, name, project.files.as_slice(), left)?;
+    Ok(ProjectSources { project, sources })
 }

@@ -1,5 +1,5 @@
 // Project files, and the line that is refused.
-use script_loader::{LineFault, Project, ProjectFile, ProjectRefusal, read_project};
+use project_lines::{LineFault, Project, ProjectFile, ProjectRefusal, read_project};
 use std::alloc::{AllocError, Global};
 use std::process::Abort;
 use std::test::Fail;

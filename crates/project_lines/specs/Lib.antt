@@ -1,0 +1,4 @@
+pub mod Names
+pub mod ProjectFile
+pub mod Reading
+pub mod Refused

@@ -1,8 +1,0 @@
-use Rattle.std.proofs.lemmas.Bool.Decides.{Decides-eqb}
-use Rattle.std.proofs.lemmas.Slice.Eq.{strip_prefix_is}
-use Rattle.script_loader.proofs.Fronts.{stripped}
-use Rattle.script_loader.proofs.names.after.Goals as goal
-
-pub returns : goal.returns
-returns c =
-    stripped c.args.bytes.now c.args.token.now c.strip_prefix.result (strip_prefix_is Decides-eqb c.args.bytes.now c.args.token.now c.strip_prefix.result c.strip_prefix.ensures.cases)
