@@ -1,0 +1,9 @@
+pub mod RunState
+pub mod GroundValues
+pub mod FreeNames
+pub mod BasisConstructors
+pub mod GroundPrimitives
+pub mod GroundEvaluation
+pub mod RegionStore
+pub mod RegionPrimitives
+pub mod RegionEvaluation
