@@ -1,5 +1,5 @@
 -- The erasure of terms, form by form.
-use Rattle.std.proofs.Common.{◌≡◌, ℕ, ℤ, List, [], ◌∷◌, Option, Some, None, map, ap, ap₂, sym, ◌∙◌, refl}
+use Rattle.std.proofs.Common.{Result, Ok, Err, IfOk, ◌≡◌, ℕ, ℤ, List, [], ◌∷◌, Option, Some, None, map, ap, ap₂, sym, ◌∙◌, refl}
 use Rattle.region_syntax.specs.declared.types.Place.{Place}
 use Rattle.region_syntax.specs.declared.types.Effect.{Effect}
 use Rattle.region_syntax.specs.declared.types.MTy.{MTy}
@@ -508,6 +508,11 @@ pub if_erased : (t : GroundType) (f : RExpForm) (m : MExp) (a b c : RExp) (y z w
     → ground_exp m ≡ form_erasure t f
 unfolding form_erasure exp_erasure erased_exp
 if_erased t f m a b c y z w h h0 h1 h2 made = made ∙ ap (g.exp t) (ground_if y z w ∙ (λ i. g.If (h0 i) (h1 i) (h2 i))) ∙ sym (ap (λ z. erased_form t (region_form z)) h ∙ ap (erased_form t) (region_if a b c))
+
+pub if_result : {E : Type 0} (o : Result MExp E) (t : GroundType) (f : RExpForm) (a b c : RExp) (y z w : MExp) → IfOk o (λ m. ground_exp m ≡ g.exp t (ground_form (v.If y z w))) → f ≡ x.If a b c
+    → ground_exp y ≡ exp_erasure a → ground_exp z ≡ exp_erasure b → ground_exp w ≡ exp_erasure c → IfOk o (λ m. ground_exp m ≡ form_erasure t f)
+if_result (Ok m) t f a b c y z w made h h0 h1 h2 = if_erased t f m a b c y z w h h0 h1 h2 made
+if_result (Err e) t f a b c y z w made h h0 h1 h2 = tt
 
 ground_both : (y z : MExp) → ground_form (v.Both y z) ≡ g.Both (ground_exp y) (ground_exp z)
 unfolding ground_pat ground_pat_form ground_exp ground_form ground_rule ground_piece ground_dec ground_bind ground_def

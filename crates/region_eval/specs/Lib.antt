@@ -7,3 +7,4 @@ pub mod GroundEvaluation
 pub mod RegionStore
 pub mod RegionPrimitives
 pub mod RegionEvaluation
+pub mod Heights

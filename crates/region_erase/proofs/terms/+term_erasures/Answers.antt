@@ -1,5 +1,6 @@
 use Rattle.std.proofs.Common.{rules}
-use Rattle.region_erase.proofs.ErasedTerms.{handle_erased, if_erased, both_erased, either_erased, letregion_erased, fix_erased}
+use Rattle.region_erase.proofs.ErasedTerms.{handle_erased, if_result, both_erased, either_erased, letregion_erased, fix_erased}
+use Rattle.region_syntax.specs.Erasure.{type_erasure}
 use Rattle.region_erase.proofs.terms.+term_erasures.Goals as goal
 
 pub erase_form-returns-in_ok-erase_box-in-Both : goal.erase_form-returns-in_ok-erase_box-in-Both
@@ -16,3 +17,8 @@ erase_form-returns-in-LetRegion t c = search (rules, letregion_erased)
 
 pub erase_form-returns-in_ok-body-in-Fix : goal.erase_form-returns-in_ok-body-in-Fix
 erase_form-returns-in_ok-body-in-Fix t c = search (rules, fix_erased)
+
+pub erase_form-returns-in_ok-no-in-If : goal.erase_form-returns-in_ok-no-in-If
+erase_form-returns-in_ok-no-in-If t c =
+    if_result c.typed-in-If.result (type_erasure c.args.ty.now) c.args.form.now c.in-If.x c.in-If.y c.in-If.z c.in_ok-test-in-If.test c.in_ok-yes-in-If.yes c.in_ok-no-in-If.no c.typed-in-If.ensures c.in-If.is
+    (search rules) (search rules) (search rules)
