@@ -168,7 +168,7 @@ pub(crate) fn region_forms(rt: &(impl Abort + AllocGlobal)) -> [RExp; 23] {
     ]
 }
 
-fn region_program(rt: &(impl Abort + AllocGlobal)) -> RProgram {
+pub(crate) fn region_program(rt: &(impl Abort + AllocGlobal)) -> RProgram {
     let data = MData {
         params: 1,
         cons: list(

@@ -667,3 +667,7 @@ program_erased p q h0 h1 h2 = λ i. record {
   exceptions = (h1 ∙ sym (map_map {A = List ℕ × Option RTy} {B = List ℕ × Option RegionType} {C = List ℕ × Option GroundType} (λ c. (c.0, region_argument c.1)) (λ c. (c.0, erased_argument c.1)) p.exceptions)) i;
   items = (ap g.decs_of h2 ∙ sym (decs_trees p.items)) i;
 }
+
+pub program_made : (p : RProgram) (ds : List MData) (es : List (List ℕ × Option MTy)) (items : List MDec) → ds ≡ p.datatypes → map ground_exception es ≡ map exception_erasure p.exceptions
+    → map ground_dec items ≡ map dec_erasure p.items → ground_program (record { datatypes = ds; exceptions = es; items = items }) ≡ erased_program (region_program p)
+program_made p ds es items h0 h1 h2 = program_erased p (record { datatypes = ds; exceptions = es; items = items }) h0 h1 h2

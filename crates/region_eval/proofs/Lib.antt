@@ -8,3 +8,4 @@ pub mod RegionPatterns
 pub mod RegionRows
 pub mod RegionExpressions
 pub mod RegionLevels
+pub mod Computed

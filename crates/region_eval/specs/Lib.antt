@@ -4,7 +4,10 @@ pub mod FreeNames
 pub mod BasisConstructors
 pub mod GroundPrimitives
 pub mod GroundEvaluation
+pub mod Heights
+pub mod GroundPage
 pub mod RegionStore
 pub mod RegionPrimitives
 pub mod RegionEvaluation
-pub mod Heights
+pub mod RegionRun
+pub mod Examples

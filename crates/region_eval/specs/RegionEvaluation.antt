@@ -20,6 +20,7 @@ use Rattle.region_syntax.specs.RegionTypes.{RegionType, erased_type}
 use Rattle.region_syntax.specs.RegionTerms as r
 use Rattle.region_syntax.specs.Erasure.{erased_rules, erased_defs}
 use Rattle.region_syntax.specs.Cost.{meeting, regions_of}
+use Rattle.region_syntax.specs.GroundTyping.{with_types}
 use Rattle.region_eval.specs.RunState.{RunState, Ending, Done, Raised, BadStatement, Over, Waits, NoRule, then_do, handled, counted, storing}
 use Rattle.region_eval.specs.FreeNames.{free_in_rules, free_in_group, function_words, group_words}
 use Rattle.region_eval.specs.RegionStore.{Value, Int, Char, Unit, Con, Desc, Address, Env, Regions, Object, Str, Tuple, Applied, Packet, PacketOf, Ref, Closure, Group, Maker, Prim, Cache, Store, Around, around_with, State, Outcome, no_rule, found, value_at, bindings_of, serial_of, serial_of_type, replaced, put, stored, alloc, follow, opened}
@@ -195,35 +196,6 @@ pat_result part around s (r.pat a (r.ConPat c)) v = constructor_match around c v
 pat_result part around s (r.pat a (r.AppPat c p)) v = applied_match part around s c p v
 
 -- ---- equality, by the type
-
--- a type with these in the place of the parameters
-abbrev pub type_among : ℕ → GroundTypes → Option GroundType
-type_among n g.no_types = None
-type_among zero (g.types a ts) = Some a
-type_among (suc n) (g.types a ts) = type_among n ts
-
-abbrev pub type_or : GroundType → Option GroundType → GroundType
-type_or a None = a
-type_or a (Some b) = b
-
-abbrev mutual
-  pub with_types : GroundTypes → GroundType → GroundType
-  with_types ts g.Int = g.Int
-  with_types ts g.Char = g.Char
-  with_types ts g.Str = g.Str
-  with_types ts g.Unit = g.Unit
-  with_types ts g.Exn = g.Exn
-  with_types ts (g.Tuple us) = g.Tuple (each_with_types ts us)
-  with_types ts (g.Arrow a b) = g.Arrow (with_types ts a) (with_types ts b)
-  with_types ts (g.Data n us) = g.Data n (each_with_types ts us)
-  with_types ts (g.Ref a) = g.Ref (with_types ts a)
-  with_types ts (g.Cache a b) = g.Cache (with_types ts a) (with_types ts b)
-  with_types ts (g.Desc a) = g.Desc (with_types ts a)
-  with_types ts (g.Var n) = type_or (g.Var n) (type_among n ts)
-
-  pub each_with_types : GroundTypes → GroundTypes → GroundTypes
-  each_with_types ts g.no_types = g.no_types
-  each_with_types ts (g.types a us) = g.types (with_types ts a) (each_with_types ts us)
 
 -- the type of the argument of a constructor of a datatype
 abbrev pub argument_type : List Datatype → ℕ → GroundTypes → ℕ → Option GroundType
