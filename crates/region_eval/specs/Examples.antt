@@ -8,6 +8,8 @@ use Rattle.region_syntax.specs.RegionTypes as t
 use Rattle.region_syntax.specs.RegionTypes.{RegionType}
 use Rattle.region_syntax.specs.RegionTerms as r
 use Rattle.region_eval.specs.RunState.{Ending, Done, NoRule}
+use Rattle.region_eval.specs.GroundValues.{Env}
+use Rattle.region_eval.specs.GroundPrimitives as ground
 use Rattle.region_eval.specs.RegionStore.{Value, Outcome}
 
 -- the outcome gives this value; it is that no rule fits
@@ -18,6 +20,11 @@ Gives _ w = ⊥
 abbrev pub HasNoRule : Outcome Value → Type 0
 HasNoRule (NoRule x s) = Unit {0}
 HasNoRule _ = ⊥
+
+-- the declarations end, with this body
+abbrev pub Writes : ground.Outcome Env → List ℕ → Type 0
+Writes (Done env s) body = s.shared.body ≡ body
+Writes _ body = ⊥
 
 -- `case (7, 9) of (a, b) => b` in a region of its own
 abbrev pub pair_type : Place → RegionType
@@ -79,6 +86,8 @@ greeting =
     g.exp gt.Str (g.App (g.exp (gt.Arrow text_pair gt.Str) (g.Prim (codes "^")))
     (g.exp text_pair (g.Tuple (g.exps (g.exp gt.Str (g.Str (codes "Hello "))) (g.exps product_text g.no_exps)))))
 
+abbrev pub hello_expression : g.Exp
+hello_expression = g.exp gt.Unit (g.App (g.exp write_type (g.Prim (codes "Web.write"))) greeting)
+
 abbrev pub hello : g.Decs
-hello =
-    g.vals (g.rules (g.pat gt.Unit g.AnyPat) (g.exp gt.Unit (g.App (g.exp write_type (g.Prim (codes "Web.write"))) greeting)) g.no_rules) g.no_decs
+hello = g.vals (g.rules (g.pat gt.Unit g.AnyPat) hello_expression g.no_rules) g.no_decs
