@@ -102,7 +102,7 @@ two_writes_here q =
     let s2 : gp.State = written (codes "b") (before_write (codes "b") s1) in
     let second : ge.each_value (ge.level 3).exp gv.no_names s1 (g.exps (writes (codes "b")) g.no_exps) ≡ Done (gv.values gv.Unit gv.no_values) s2 = then_step _ (write_text 1 gv.no_names (codes "b") s1) in
     let both : ge.each_value (ge.level 3).exp gv.no_names s0 (g.exps (writes (codes "a")) (g.exps (writes (codes "b")) g.no_exps)) ≡ Done (gv.values gv.Unit (gv.values gv.Unit gv.no_values)) s2
-        = then_step _ (write_text 1 gv.no_names (codes "a") s0) ∙ then_step _ second in
+    = then_step _ (write_text 1 gv.no_names (codes "a") s0) ∙ then_step _ second in
     ends {body = (q.body ++ codes "a") ++ codes "b"} (then_step _ (then_step _ (then_step _ (then_step _ both)))) refl
 
 -- hello product

@@ -35,7 +35,7 @@ equality_R same other h wanted _ s = waits_R (omega arith)
 
 other_R : {k : ℕ} (name : List ℕ) (row : Row) (arguments : Values) (v : Value) (s : State)
     → S k s.shared.count (if nat_lt (suc (many_values arguments)) (wanted_by row) then held name (and_value arguments v) s else stored name v s (λ s1. called name arguments v s1))
-      (if nat_lt (suc (many_values arguments)) (wanted_by row) then held name (and_value arguments v) s else stored name v s (λ s1. called name arguments v s1))
+    (if nat_lt (suc (many_values arguments)) (wanted_by row) then held name (and_value arguments v) s else stored name v s (λ s1. called name arguments v s1))
 other_R name row arguments v s =
     if_R (nat_lt (suc (many_values arguments)) (wanted_by row)) (done_R (omega arith))
     (if_R (bytes_eq name (codes "!")) (contents_R v s) (if_R (bytes_eq name (codes ":=")) (assigned_R v s) (called_R name arguments v s)))

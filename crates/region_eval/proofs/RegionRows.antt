@@ -47,8 +47,8 @@ equality_R same other h around wanted _ _ s = no_rule_R (omega arith)
 
 other_R : {k : ℕ} (around : Around) (name : List ℕ) (a : GroundType) (serials : List ℕ) (row : Row) (arguments : List Value) (v : Value) (s : State)
     → S k s.shared.count
-      (if nat_lt (suc (length arguments)) (wanted_by row) then held around.live name a serials (arguments ++ v ∷ []) s else on_store around.live name v s (λ s1. called around.live (next_serial serials) name arguments v s1))
-      (if nat_lt (suc (length arguments)) (wanted_by row) then held around.live name a serials (arguments ++ v ∷ []) s else on_store around.live name v s (λ s1. called around.live (next_serial serials) name arguments v s1))
+    (if nat_lt (suc (length arguments)) (wanted_by row) then held around.live name a serials (arguments ++ v ∷ []) s else on_store around.live name v s (λ s1. called around.live (next_serial serials) name arguments v s1))
+    (if nat_lt (suc (length arguments)) (wanted_by row) then held around.live name a serials (arguments ++ v ∷ []) s else on_store around.live name v s (λ s1. called around.live (next_serial serials) name arguments v s1))
 other_R around name a serials row arguments v s =
     if_R (nat_lt (suc (length arguments)) (wanted_by row))
     (alloc_R s.shared.count around.live (next_serial serials) (Prim name (result_type a) (later_serials serials) (arguments ++ v ∷ [])) (counted (1 + length (arguments ++ v ∷ [])) s) (omega arith))
