@@ -1,5 +1,5 @@
 -- The examples, computed.
-use Rattle.std.proofs.Common.{◌≡◌, ℕ, suc, ℤ, pos, List, [], ◌∷◌, ◌++◌, Option, Some, None, codes, refl, ap, sym, subst, ◌∙◌}
+use Rattle.std.proofs.Common.{◌≡◌, ℕ, suc, ℤ, pos, List, [], ◌∷◌, ◌++◌, Option, Some, codes, refl, ap, sym, subst, ◌∙◌}
 use Rattle.sml_syntax.specs.declared.value.Value as plain
 use Rattle.sml_syntax.specs.declared.value.Bound.TheOpen.{Value-F}
 use Rattle.sml_syntax.specs.declared.value.Bound.TheFolds.{fold-roll-Value}
@@ -17,7 +17,7 @@ use Rattle.region_eval.specs.GroundValues as gv
 use Rattle.region_eval.specs.GroundPrimitives.{taken, taken_by, found, called}
 use Rattle.region_eval.specs.GroundPrimitives as gp
 use Rattle.region_eval.specs.GroundEvaluation as ge
-use Rattle.region_eval.specs.RegionStore.{NoneFits, none_fits, Value, Int, Store, State, Outcome}
+use Rattle.region_eval.specs.RegionStore.{Value, Int, State, Outcome}
 use Rattle.region_eval.specs.RegionEvaluation.{eval, start_around, start_store}
 use Rattle.region_eval.specs.Examples.{pair_is_read, pair_is_dead, pair_is_held, Gives, HasNoRule, Writes, writes, two_writes, product, product_text, greeting, hello_expression, hello}
 

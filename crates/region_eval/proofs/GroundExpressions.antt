@@ -1,5 +1,5 @@
 -- Specialised expressions and declarations, side by side.
-use Rattle.std.proofs.Common.{◌≡◌, ℕ, ◌+◌, ◌≤◌, Bool, true, false, List, [], ◌∷◌, Option, Some, None, refl, arith}
+use Rattle.std.proofs.Common.{ℕ, ◌+◌, [], ◌∷◌, Option, Some, None, arith}
 use Rattle.std.specs.Prelude.{◌==◌}
 use Rattle.sml_syntax.specs.Values.{text_size}
 use Rattle.region_syntax.specs.declared.specialised.Constructor.{Constructor}
@@ -7,12 +7,12 @@ use Rattle.region_syntax.specs.declared.specialised.Constructor.TheVariants as c
 use Rattle.region_syntax.specs.GroundTypes as t
 use Rattle.region_syntax.specs.GroundTypes.{GroundType}
 use Rattle.region_syntax.specs.GroundTerms as g
-use Rattle.region_eval.specs.RunState.{RunState, Ending, Done, Raised, Over, Waits, then_do, handled, counted}
-use Rattle.region_eval.specs.GroundValues.{Value, Con, Fun, Maker, Prim, Values, no_values, values, last_of, Env, value_at, before}
+use Rattle.region_eval.specs.RunState.{Raised, counted}
+use Rattle.region_eval.specs.GroundValues.{Value, Con, Fun, Maker, Prim, Values, last_of, Env, value_at, before}
 use Rattle.region_eval.specs.FreeNames.{group_words}
-use Rattle.region_eval.specs.GroundPrimitives.{State, Outcome, found}
-use Rattle.region_eval.specs.GroundEvaluation.{Evaluator, Level, Pending, Shows, Hides, Plan, plan_of, each_value, last_value, each_piece, chosen, rules_result, match_failed, group_bound, constructor_result, constructed, application, by_bool, form_result, bound_more, binding, with_binding, functions_bound, with_dec, Coming, Comes, Ends, coming, with_coming, scope_result}
-use Rattle.region_eval.proofs.Relations.{R, done_R, raised_R, waits_R, weaker, if_R, then_R, handled_R}
+use Rattle.region_eval.specs.GroundPrimitives.{State, Outcome}
+use Rattle.region_eval.specs.GroundEvaluation.{Evaluator, Level, Shows, Plan, plan_of, each_value, last_value, each_piece, chosen, rules_result, match_failed, group_bound, constructor_result, constructed, application, by_bool, form_result, bound_more, with_binding, functions_bound, with_dec, Coming, Comes, Ends, coming, with_coming, scope_result}
+use Rattle.region_eval.proofs.Relations.{done_R, raised_R, waits_R, weaker, if_R, then_R, handled_R}
 use Rattle.region_eval.proofs.GroundPatterns.{S, found_R, Matches, Compares}
 use Rattle.region_eval.proofs.GroundRows.{application_R, named_R}
 

@@ -1,14 +1,14 @@
 -- Heights of specialised terms, side by side.
-use Rattle.std.proofs.Common.{◌≡◌, ℕ, zero, suc, ◌+◌, ◌≤◌, List, [], ◌∷◌, refl, sym, subst, arith}
+use Rattle.std.proofs.Common.{ℕ, zero, suc, ◌+◌, ◌≤◌, [], subst, arith}
 use Rattle.region_syntax.specs.GroundTerms as g
-use Rattle.region_eval.specs.RunState.{RunState, Ending, Done, Raised, BadStatement, Over, Waits, NoRule, then_do, counted}
-use Rattle.region_eval.specs.GroundValues.{Value, Env}
+use Rattle.region_eval.specs.RunState.{Done, Over, then_do, counted}
+use Rattle.region_eval.specs.GroundValues.{Env}
 use Rattle.region_eval.specs.GroundPrimitives.{State, Outcome}
-use Rattle.region_eval.specs.GroundEvaluation.{Evaluator, Level, Plan, plan_of, exp_result, Coming, Comes, Ends, coming, with_dec, with_coming, over_scope, nothing, exp_above, above, level, eval, eval_decs}
+use Rattle.region_eval.specs.GroundEvaluation.{Level, Plan, plan_of, exp_result, Coming, Comes, Ends, coming, with_dec, with_coming, over_scope, nothing, exp_above, above, level, eval, eval_decs}
 use Rattle.region_eval.specs.Heights.{count_of, Betters}
-use Rattle.region_eval.proofs.Relations.{R, done_R, weaker, then_R, one_more, and_more, then_betters}
+use Rattle.region_eval.proofs.Relations.{done_R, weaker, then_R, one_more, and_more, then_betters}
 use Rattle.region_eval.proofs.GroundPatterns.{S, pat_R, same_R}
-use Rattle.region_eval.proofs.GroundExpressions.{Evaluates, Levels, each_value_R, form_R, with_binding_R, dec_starts, with_coming_R, scope_R}
+use Rattle.region_eval.proofs.GroundExpressions.{Evaluates, Levels, each_value_R, form_R, with_binding_R, dec_starts, scope_R}
 
 exp_R : {k : ℕ} (l h : Level) → Levels k l h → (env : Env) (s : State) (e : g.Exp) → S k s.shared.count (exp_result l env s e) (exp_result h env s e)
 exp_R l h r env s (g.exp a form) = form_R l h r env s a form

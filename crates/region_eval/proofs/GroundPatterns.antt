@@ -1,5 +1,5 @@
 -- Patterns and comparisons of specialised terms, side by side.
-use Rattle.std.proofs.Common.{◌≡◌, ℕ, ◌+◌, ◌≤◌, ℤ, Bool, true, false, List, [], ◌∷◌, Option, Some, None, refl, arith}
+use Rattle.std.proofs.Common.{ℕ, ◌≤◌, ℤ, Bool, true, false, List, Option, Some, None, arith}
 use Rattle.std.specs.Prelude.{slice_get, ◌==◌}
 use Rattle.std.specs.Str.{bytes_eq}
 use Rattle.sml_syntax.specs.Values.{text_size}
@@ -7,11 +7,11 @@ use Rattle.sml_syntax.specs.Evaluation.{same_int}
 use Rattle.region_syntax.specs.declared.specialised.Constructor.{Constructor}
 use Rattle.region_syntax.specs.declared.specialised.Constructor.TheVariants as con
 use Rattle.region_syntax.specs.GroundTerms as g
-use Rattle.region_eval.specs.RunState.{RunState, Ending, Done, Waits, then_do, counted}
-use Rattle.region_eval.specs.GroundValues.{Value, Int, Char, Str, Unit, Tuple, Con, Applied, Packet, PacketOf, Ref, Values, no_values, values, Env, no_names, bind}
+use Rattle.region_eval.specs.RunState.{counted}
+use Rattle.region_eval.specs.GroundValues.{Value, Int, Char, Str, Unit, Tuple, Con, Applied, Packet, PacketOf, Ref, Values, no_values, values, Env}
 use Rattle.region_eval.specs.GroundPrimitives.{State, Outcome, found, Comparing}
-use Rattle.region_eval.specs.GroundEvaluation.{Matcher, fits_if, joined, and_more, each_match, cell_match, list_match, constructor_match, held_match, applied_match, int_match, char_match, text_match, tuple_match, pat_result, and_same, each_same, same_result}
-use Rattle.region_eval.proofs.Relations.{R, done_R, waits_R, weaker, if_R, then_R}
+use Rattle.region_eval.specs.GroundEvaluation.{Matcher, fits_if, and_more, each_match, cell_match, list_match, constructor_match, held_match, applied_match, int_match, char_match, text_match, tuple_match, pat_result, and_same, each_same, same_result}
+use Rattle.region_eval.proofs.Relations.{R, done_R, waits_R, if_R, then_R}
 
 -- of specialised terms
 abbrev pub S : {A : Type 0} → ℕ → ℕ → Outcome A → Outcome A → Type 0

@@ -1,12 +1,12 @@
 -- Primitives on the values of specialised terms, side by side.
-use Rattle.std.proofs.Common.{◌≡◌, ℕ, suc, ◌+◌, ◌≤◌, Bool, true, false, List, [], ◌∷◌, Option, Some, None, codes, refl, arith}
-use Rattle.std.specs.Prelude.{slice_get, nat_lt, length, set, if◌then◌else◌}
+use Rattle.std.proofs.Common.{ℕ, suc, Bool, List, codes, arith}
+use Rattle.std.specs.Prelude.{slice_get, nat_lt, length, if◌then◌else◌}
 use Rattle.std.specs.Str.{bytes_eq}
 use Rattle.sml_syntax.specs.Primitives.{Row, Constant, First, Second, Third, Same, primitives, row_of, row_value, prim_result}
-use Rattle.region_eval.specs.RunState.{RunState, Ending, Done, Raised, Waits, then_do}
-use Rattle.region_eval.specs.GroundValues.{Value, Unit, Tuple, Ref, Values, no_values, values, many_values, and_value}
-use Rattle.region_eval.specs.GroundPrimitives.{State, Outcome, found, carrying, never, seen, all_seen, taken, called, contents, assigned, Comparing, equality, held, wanted_by, stored, row_result, prim_application, prim_named}
-use Rattle.region_eval.proofs.Relations.{R, done_R, raised_R, waits_R, if_R, then_R}
+use Rattle.region_eval.specs.RunState.{Done, Raised}
+use Rattle.region_eval.specs.GroundValues.{Value, Tuple, Ref, Values, no_values, values, many_values, and_value}
+use Rattle.region_eval.specs.GroundPrimitives.{State, carrying, never, seen, all_seen, taken, called, contents, assigned, Comparing, equality, held, wanted_by, stored, row_result, prim_application, prim_named}
+use Rattle.region_eval.proofs.Relations.{done_R, raised_R, waits_R, if_R, then_R}
 use Rattle.region_eval.proofs.Rows.{Carries, carried_R, result_fine}
 use Rattle.region_eval.proofs.GroundPatterns.{S, found_R, Compares}
 

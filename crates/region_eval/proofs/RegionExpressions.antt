@@ -1,5 +1,5 @@
 -- Region expressions and declarations, side by side.
-use Rattle.std.proofs.Common.{◌≡◌, ℕ, ◌+◌, ◌*◌, ◌≤◌, Bool, true, false, List, [], ◌∷◌, ◌++◌, Option, Some, None, length, refl, arith}
+use Rattle.std.proofs.Common.{ℕ, ◌+◌, ◌*◌, List, [], ◌∷◌, ◌++◌, Option, Some, None, length, arith}
 use Rattle.std.specs.Prelude.{◌==◌}
 use Rattle.sml_syntax.specs.Values.{text_size}
 use Rattle.region_syntax.specs.declared.types.Place.{Place}
@@ -9,11 +9,11 @@ use Rattle.region_syntax.specs.RegionTypes as t
 use Rattle.region_syntax.specs.RegionTypes.{RegionType}
 use Rattle.region_syntax.specs.RegionTerms as r
 use Rattle.region_syntax.specs.Erasure.{erased_rules, erased_defs}
-use Rattle.region_eval.specs.RunState.{RunState, Ending, Done, Raised, Over, NoRule, then_do, handled, counted}
+use Rattle.region_eval.specs.RunState.{Raised, counted}
 use Rattle.region_eval.specs.FreeNames.{free_in_rules, free_in_group, function_words, group_words}
-use Rattle.region_eval.specs.RegionStore.{NoneFits, Value, Con, Env, Object, Str, Tuple, Applied, Packet, PacketOf, Ref, Closure, Group, Maker, Prim, Store, Around, around_with, State, Outcome, found, value_at, bindings_of, serial_of, serial_of_type, alloc, follow}
-use Rattle.region_eval.specs.RegionEvaluation.{Evaluator, Level, Pending, Shows, Hides, Plan, plan_of, each_value, last_of, last_value, each_piece, cells, list_result, chosen, rules_result, thrown, match_failed, constructor_result, constructed, application, group_addresses, group_made, group_bound, bound_regions, instance_result, by_bool, form_result, bound_more, binding, with_binding, with_dec, Coming, Comes, Ends, coming, with_coming, scope_result}
-use Rattle.region_eval.proofs.Relations.{R, done_R, raised_R, no_rule_R, weaker, if_R, then_R, handled_R}
+use Rattle.region_eval.specs.RegionStore.{Value, Con, Env, Object, Str, Tuple, Applied, Packet, PacketOf, Ref, Closure, Group, Maker, Prim, Around, around_with, State, Outcome, value_at, bindings_of, serial_of, serial_of_type}
+use Rattle.region_eval.specs.RegionEvaluation.{Evaluator, Level, Shows, Plan, plan_of, each_value, last_of, last_value, each_piece, cells, list_result, chosen, rules_result, thrown, match_failed, constructor_result, constructed, application, group_addresses, group_made, group_bound, bound_regions, instance_result, by_bool, form_result, bound_more, with_binding, with_dec, Coming, Comes, Ends, coming, with_coming, scope_result}
+use Rattle.region_eval.proofs.Relations.{done_R, raised_R, no_rule_R, weaker, if_R, then_R, handled_R}
 use Rattle.region_eval.proofs.RegionPatterns.{S, found_R, alloc_R, follow_R, Matches, Compares}
 use Rattle.region_eval.proofs.RegionRows.{application_R, named_R}
 

@@ -1,14 +1,14 @@
 -- Heights of region terms, side by side.
-use Rattle.std.proofs.Common.{◌≡◌, ℕ, zero, suc, ◌+◌, ◌≤◌, List, [], ◌∷◌, refl, sym, subst, arith}
+use Rattle.std.proofs.Common.{ℕ, zero, suc, ◌+◌, ◌≤◌, [], subst, arith}
 use Rattle.region_syntax.specs.RegionTerms as r
 use Rattle.region_syntax.specs.Cost.{meeting, regions_of}
-use Rattle.region_eval.specs.RunState.{RunState, Ending, Done, Raised, BadStatement, Over, Waits, NoRule, then_do, counted, storing}
-use Rattle.region_eval.specs.RegionStore.{NoneFits, Value, Env, Store, Around, State, Outcome, opened}
-use Rattle.region_eval.specs.RegionEvaluation.{Evaluator, Level, Plan, plan_of, form_result, Coming, Comes, Ends, coming, with_dec, with_coming, over_scope, nothing, exp_above, above, level, eval, eval_decs}
+use Rattle.region_eval.specs.RunState.{Done, Over, then_do, counted, storing}
+use Rattle.region_eval.specs.RegionStore.{Env, Store, Around, State, Outcome, opened}
+use Rattle.region_eval.specs.RegionEvaluation.{Level, Plan, plan_of, Coming, Comes, Ends, coming, with_dec, with_coming, over_scope, nothing, exp_above, above, level, eval, eval_decs}
 use Rattle.region_eval.specs.Heights.{count_of, Betters}
-use Rattle.region_eval.proofs.Relations.{R, done_R, weaker, then_R, one_more, and_more, then_betters}
+use Rattle.region_eval.proofs.Relations.{done_R, weaker, then_R, one_more, and_more, then_betters}
 use Rattle.region_eval.proofs.RegionPatterns.{S, pat_R, same_R}
-use Rattle.region_eval.proofs.RegionExpressions.{Evaluates, Levels, each_value_R, form_R, with_binding_R, dec_starts, with_coming_R, scope_R}
+use Rattle.region_eval.proofs.RegionExpressions.{Evaluates, Levels, each_value_R, form_R, with_binding_R, dec_starts, scope_R}
 
 exp_above_R : {k : ℕ} (l h : Level) → Levels k l h → Evaluates k (exp_above l) (exp_above h)
 exp_above_R l h q around env s (r.exp a (r.LetRegion rs e)) =

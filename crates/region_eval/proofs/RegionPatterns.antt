@@ -1,5 +1,5 @@
 -- Patterns and comparisons of region terms, side by side.
-use Rattle.std.proofs.Common.{◌≡◌, ℕ, ◌+◌, ◌≤◌, ℤ, Bool, true, false, List, [], ◌∷◌, Option, Some, None, refl, arith}
+use Rattle.std.proofs.Common.{ℕ, ◌≤◌, ℤ, Bool, true, false, List, [], ◌∷◌, Option, Some, None, arith}
 use Rattle.std.specs.Prelude.{◌==◌}
 use Rattle.std.specs.Str.{bytes_eq}
 use Rattle.sml_syntax.specs.Values.{text_size}
@@ -9,11 +9,11 @@ use Rattle.region_syntax.specs.declared.specialised.Constructor.TheVariants as c
 use Rattle.region_syntax.specs.GroundTypes as g
 use Rattle.region_syntax.specs.GroundTypes.{GroundType, GroundTypes}
 use Rattle.region_syntax.specs.RegionTerms as r
-use Rattle.region_eval.specs.RunState.{RunState, Ending, Done, Raised, NoRule, then_do, counted, storing}
-use Rattle.region_eval.specs.RegionStore.{NoneFits, Value, Int, Char, Unit, Con, Desc, Address, Env, Object, Str, Tuple, Applied, Packet, PacketOf, Ref, Store, Around, State, Outcome, found, serial_of_type, put, stored, alloc, followed, follow}
+use Rattle.region_eval.specs.RunState.{Done, counted, storing}
+use Rattle.region_eval.specs.RegionStore.{NoneFits, Value, Int, Char, Unit, Con, Address, Env, Object, Str, Tuple, Applied, Packet, PacketOf, Ref, Store, Around, State, Outcome, found, serial_of_type, put, stored, alloc, followed, follow}
 use Rattle.region_eval.specs.RegionPrimitives.{Comparing}
-use Rattle.region_eval.specs.RegionEvaluation.{Matcher, fits_if, joined, and_more, each_match, pair_match, cell_match, list_match, packet_match, constructor_match, argument_match, applied_match, int_match, char_match, text_match, tuple_match, pat_result, argument_type, and_same, each_same, both_followed, texts_same, tuples_same, arguments_same, data_same, ints_same, chars_same, references_same, same_result}
-use Rattle.region_eval.proofs.Relations.{R, done_R, no_rule_R, weaker, if_R, then_R}
+use Rattle.region_eval.specs.RegionEvaluation.{Matcher, fits_if, and_more, each_match, pair_match, cell_match, list_match, packet_match, constructor_match, argument_match, applied_match, int_match, char_match, text_match, tuple_match, pat_result, argument_type, and_same, each_same, both_followed, texts_same, tuples_same, arguments_same, data_same, ints_same, chars_same, references_same, same_result}
+use Rattle.region_eval.proofs.Relations.{R, done_R, no_rule_R, if_R, then_R}
 
 -- of region terms
 abbrev pub S : {A : Type 0} → ℕ → ℕ → Outcome A → Outcome A → Type 0

@@ -1,16 +1,16 @@
 -- Primitives on the values of region terms, side by side.
-use Rattle.std.proofs.Common.{◌≡◌, ℕ, suc, ◌+◌, ◌≤◌, Bool, true, false, List, [], ◌∷◌, ◌++◌, Option, Some, None, codes, refl, arith}
+use Rattle.std.proofs.Common.{ℕ, suc, ◌+◌, Bool, List, [], ◌∷◌, ◌++◌, codes, arith}
 use Rattle.std.specs.Prelude.{nat_eq, nat_lt, length, if◌then◌else◌}
 use Rattle.std.specs.Str.{bytes_eq}
 use Rattle.sml_syntax.specs.Primitives.{Row, Constant, First, Second, Third, Same, primitives, row_of, prim_result}
 use Rattle.region_syntax.specs.GroundTypes as g
 use Rattle.region_syntax.specs.GroundTypes.{GroundType}
 use Rattle.region_syntax.specs.RegionTypes.{RegionType, erased_type}
-use Rattle.region_eval.specs.RunState.{RunState, Ending, Done, Raised, Waits, NoRule, then_do, counted}
+use Rattle.region_eval.specs.RunState.{Done, Raised, counted}
 use Rattle.region_eval.specs.GroundPrimitives.{never, wanted_by}
-use Rattle.region_eval.specs.RegionStore.{NoneFits, Value, Address, Object, Tuple, Ref, Prim, Store, Around, State, Outcome, serial_of_type, result_serials}
-use Rattle.region_eval.specs.RegionPrimitives.{each_read, read, written, waiting, carrying, called, contents, assigned_at, assigned, Comparing, equality, next_serial, later_serials, result_type, held, on_store, row_result, prim_application, row_named, prim_named}
-use Rattle.region_eval.proofs.Relations.{R, done_R, raised_R, waits_R, no_rule_R, if_R, then_R}
+use Rattle.region_eval.specs.RegionStore.{NoneFits, Value, Address, Object, Tuple, Ref, Prim, Store, Around, State, serial_of_type, result_serials}
+use Rattle.region_eval.specs.RegionPrimitives.{each_read, read, written, carrying, called, contents, assigned_at, assigned, Comparing, equality, next_serial, later_serials, result_type, held, on_store, row_result, prim_application, row_named, prim_named}
+use Rattle.region_eval.proofs.Relations.{done_R, raised_R, waits_R, no_rule_R, if_R, then_R}
 use Rattle.region_eval.proofs.Rows.{Carries, carried_R, result_fine}
 use Rattle.region_eval.proofs.RegionPatterns.{S, found_R, stored_R, alloc_R, follow_R, Compares}
 

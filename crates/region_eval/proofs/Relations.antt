@@ -1,6 +1,6 @@
 -- Two evaluations side by side: neither counts less than is counted already, and the second one betters the first.
 use Rattle.std.proofs.Common.{◌≡◌, ℕ, zero, suc, ◌+◌, ◌≤◌, Bool, true, false, cond, refl, sym, subst, arith}
-use Rattle.region_eval.specs.RunState.{RunState, Ending, Done, Raised, BadStatement, Over, Waits, NoRule, then_do, handled, counted, storing}
+use Rattle.region_eval.specs.RunState.{RunState, Ending, Done, Raised, BadStatement, Over, Waits, NoRule, then_do, handled}
 use Rattle.region_eval.specs.Heights.{count_of, Betters}
 
 pub record R (N V H A : Type 0) (k n : ℕ) (o p : Ending N V H A) : Type 0 where

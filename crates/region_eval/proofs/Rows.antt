@@ -1,12 +1,12 @@
 -- Primitives never run out of height, and count no less.
-use Rattle.std.proofs.Common.{◌≡◌, ℕ, suc, ◌+◌, ◌≤◌, Bool, true, false, List, [], ◌∷◌, refl, arith}
+use Rattle.std.proofs.Common.{ℕ, ◌+◌, ◌≤◌, List, refl, arith}
 use Rattle.sml_syntax.specs.declared.value.Value as plain
 use Rattle.sml_syntax.specs.Outcome as source
 use Rattle.sml_syntax.specs.Outcome.{EvalState}
 use Rattle.sml_syntax.specs.Primitives.{prim_result}
 use Rattle.eval_laws.proofs.Relations as side
 use Rattle.eval_laws.proofs.Rows.{prim_R}
-use Rattle.region_eval.specs.RunState.{RunState, Ending, Done, Raised, BadStatement, Over, Waits, NoRule, Carrying, carried, state_of}
+use Rattle.region_eval.specs.RunState.{RunState, Done, Raised, BadStatement, Over, Waits, Carrying, carried, state_of}
 use Rattle.region_eval.specs.GroundPrimitives.{never}
 use Rattle.region_eval.proofs.Relations.{R, weaker}
 

@@ -14,8 +14,8 @@ use Rattle.region_syntax.specs.declared.specialised.Constructor.TheVariants as c
 use Rattle.region_syntax.specs.GroundTypes as t
 use Rattle.region_syntax.specs.GroundTypes.{GroundType}
 use Rattle.region_syntax.specs.GroundTerms as g
-use Rattle.region_eval.specs.RunState.{RunState, Ending, Done, Raised, BadStatement, Over, Waits, NoRule, then_do, handled, counted, storing}
-use Rattle.region_eval.specs.GroundValues.{Value, Int, Char, Str, Unit, Tuple, Con, Applied, Packet, PacketOf, Ref, Fun, Maker, Prim, Desc, Cache, Values, no_values, values, many_values, last_of, list_value, bool_value, Env, no_names, bind, value_at, before, many_names, first_names, bindings_of}
+use Rattle.region_eval.specs.RunState.{Done, Raised, Over, Waits, then_do, handled, counted, storing}
+use Rattle.region_eval.specs.GroundValues.{Value, Int, Char, Str, Unit, Tuple, Con, Applied, Packet, PacketOf, Ref, Fun, Maker, Prim, Values, no_values, values, many_values, last_of, list_value, bool_value, Env, no_names, bind, value_at, before, many_names, first_names, bindings_of}
 use Rattle.region_eval.specs.FreeNames.{free_in_rules, free_in_group, function_words, group_words}
 use Rattle.region_eval.specs.GroundPrimitives.{State, Outcome, found, Comparing, prim_application, prim_named}
 

@@ -7,7 +7,7 @@ use Rattle.sml_syntax.specs.Page.{PageEnd, Finished, Uncaught, Refused, Endless,
 use Rattle.region_syntax.specs.GroundTypes.{GroundType}
 use Rattle.region_syntax.specs.GroundTerms.{Program}
 use Rattle.region_syntax.specs.Cost.{IsWork, IsDepth}
-use Rattle.region_eval.specs.RunState.{RunState, Ending, Done, Raised, BadStatement, Over, Waits, NoRule, state_of}
+use Rattle.region_eval.specs.RunState.{Done, Raised, BadStatement, Over, Waits, state_of}
 use Rattle.region_eval.specs.Heights.{count_of}
 use Rattle.region_eval.specs.GroundValues.{Value, Packet, PacketOf, Env, no_names}
 use Rattle.region_eval.specs.GroundPrimitives.{State, Outcome}

@@ -1,7 +1,7 @@
 -- The primitives of the basis on the values of specialised terms: what they are on the values of programs, other than those on references and
 -- the tests of equality.
-use Rattle.std.specs.Prelude.{ℕ, suc, Bool, true, false, not, nat_lt, List, [], ◌∷◌, length, set, slice_get, Option, Some, None, codes, if◌then◌else◌, ◌+◌}
-use Rattle.std.specs.Option.{option_map, option_map_or, option_and_then}
+use Rattle.std.specs.Prelude.{ℕ, suc, Bool, not, nat_lt, List, [], ◌∷◌, length, set, slice_get, Option, Some, None, codes, if◌then◌else◌, ◌+◌}
+use Rattle.std.specs.Option.{option_map}
 use Rattle.std.specs.Str.{bytes_eq}
 use Rattle.sml_syntax.specs.declared.value.Value as plain
 use Rattle.sml_syntax.specs.declared.value.Bound.TheOpen.{Value-F}
@@ -12,7 +12,7 @@ use Rattle.sml_syntax.specs.Outcome.{EvalState}
 use Rattle.sml_syntax.specs.DataValues.{both_of}
 use Rattle.sml_syntax.specs.Primitives.{Row, Constant, First, Second, Third, Same, primitives, row_of, row_value, prim_result}
 use Rattle.region_eval.specs.RunState.{RunState, Ending, Done, Raised, Waits, then_do, counted, storing, Carrying, carried}
-use Rattle.region_eval.specs.GroundValues.{Value, Int, Char, Str, Unit, Tuple, Con, Applied, Packet, PacketOf, Ref, Fun, Maker, Prim, Desc, Cache, Values, no_values, values, many_values, and_value, bool_value}
+use Rattle.region_eval.specs.GroundValues.{Value, Int, Char, Str, Unit, Tuple, Con, Applied, Packet, PacketOf, Ref, Fun, Prim, Desc, Cache, Values, no_values, values, many_values, and_value, bool_value}
 use Rattle.region_eval.specs.BasisConstructors.{constructor_name, constructor_named}
 
 -- the references by their numbers

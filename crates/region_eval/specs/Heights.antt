@@ -1,6 +1,6 @@
 -- What a greater height does to an evaluation.
 use Rattle.std.specs.Prelude.{◌≡◌, ℕ, ◌+◌, ◌≤◌}
-use Rattle.region_eval.specs.RunState.{RunState, Ending, Done, Raised, BadStatement, Over, Waits, NoRule}
+use Rattle.region_eval.specs.RunState.{Ending, Done, Raised, BadStatement, Over, Waits, NoRule}
 
 -- the count in the state that an outcome leaves
 abbrev pub count_of : {N V H A : Type 0} → Ending N V H A → ℕ

@@ -3,7 +3,7 @@
 -- The live regions and what the regions' numbers stand for are given with the term, and nothing is put into a term: a region is live while the body of
 -- its `LetRegion` is evaluated, for packets too. An effect variable has no part in it.
 -- Heights and counts are those of specialised terms: a `LetRegion` uses no height and counts nothing, nor do the closures of instances.
-use Rattle.std.specs.Prelude.{ℕ, zero, suc, ◌+◌, ◌-◌, ◌*◌, ◌==◌, nat_eq, ℤ, Bool, true, false, ◌&&◌, List, [], ◌∷◌, ◌++◌, length, map, take, Option, Some, None, if◌then◌else◌}
+use Rattle.std.specs.Prelude.{ℕ, zero, suc, ◌+◌, ◌-◌, ◌*◌, ◌==◌, nat_eq, ℤ, Bool, true, false, ◌&&◌, List, [], ◌∷◌, ◌++◌, length, take, Option, Some, None, if◌then◌else◌}
 use Rattle.std.specs.Option.{option_and_then}
 use Rattle.std.specs.List.{slice_get}
 use Rattle.std.specs.Str.{bytes_eq}
@@ -16,14 +16,14 @@ use Rattle.region_syntax.specs.GroundTypes as g
 use Rattle.region_syntax.specs.GroundTypes.{GroundType, GroundTypes}
 use Rattle.region_syntax.specs.GroundTerms.{Datatype}
 use Rattle.region_syntax.specs.RegionTypes as t
-use Rattle.region_syntax.specs.RegionTypes.{RegionType, erased_type}
+use Rattle.region_syntax.specs.RegionTypes.{RegionType}
 use Rattle.region_syntax.specs.RegionTerms as r
 use Rattle.region_syntax.specs.Erasure.{erased_rules, erased_defs}
 use Rattle.region_syntax.specs.Cost.{meeting, regions_of}
 use Rattle.region_syntax.specs.GroundTyping.{with_types}
-use Rattle.region_eval.specs.RunState.{RunState, Ending, Done, Raised, BadStatement, Over, Waits, NoRule, then_do, handled, counted, storing}
+use Rattle.region_eval.specs.RunState.{Done, Raised, Over, then_do, handled, counted, storing}
 use Rattle.region_eval.specs.FreeNames.{free_in_rules, free_in_group, function_words, group_words}
-use Rattle.region_eval.specs.RegionStore.{Value, Int, Char, Unit, Con, Desc, Address, Env, Regions, Object, Str, Tuple, Applied, Packet, PacketOf, Ref, Closure, Group, Maker, Prim, Cache, Store, Around, around_with, State, Outcome, no_rule, found, value_at, bindings_of, serial_of, serial_of_type, replaced, put, stored, alloc, follow, opened}
+use Rattle.region_eval.specs.RegionStore.{Value, Int, Char, Unit, Con, Address, Env, Regions, Object, Str, Tuple, Applied, Packet, PacketOf, Ref, Closure, Group, Maker, Prim, Store, Around, around_with, State, Outcome, no_rule, found, value_at, bindings_of, serial_of, serial_of_type, replaced, alloc, follow, opened}
 use Rattle.region_eval.specs.RegionPrimitives.{Comparing, bool_value, prim_application, prim_named}
 
 -- ---- the evaluations of parts

@@ -1,21 +1,20 @@
 -- The primitives of the basis on the values of region terms: arguments are read from live regions, and what a primitive gives is written into one.
-use Rattle.std.specs.Prelude.{ℕ, zero, suc, ◌+◌, nat_eq, nat_lt, Bool, true, false, not, List, [], ◌∷◌, ◌++◌, length, Option, Some, None, codes, if◌then◌else◌}
-use Rattle.std.specs.Option.{option_map, option_map_or, option_and_then}
+use Rattle.std.specs.Prelude.{ℕ, zero, suc, ◌+◌, nat_eq, nat_lt, Bool, not, List, [], ◌∷◌, ◌++◌, length, Option, Some, None, codes, if◌then◌else◌}
+use Rattle.std.specs.Option.{option_map, option_and_then}
 use Rattle.std.specs.Str.{bytes_eq}
 use Rattle.sml_syntax.specs.declared.value.Value as plain
 use Rattle.sml_syntax.specs.declared.value.Bound.TheOpen.{Value-F}
 use Rattle.sml_syntax.specs.declared.value.Bound.TheFolds.{fold-Value}
 use Rattle.sml_syntax.specs.Values as make
-use Rattle.sml_syntax.specs.Outcome.{EvalState}
 use Rattle.sml_syntax.specs.DataValues.{both_of}
-use Rattle.sml_syntax.specs.Primitives.{Row, Constant, First, Second, Third, Same, primitives, row_of, row_value, prim_result}
+use Rattle.sml_syntax.specs.Primitives.{Row, Constant, Same, primitives, row_of, prim_result}
 use Rattle.region_syntax.specs.GroundTypes as g
 use Rattle.region_syntax.specs.GroundTypes.{GroundType}
 use Rattle.region_syntax.specs.RegionTypes.{RegionType, erased_type}
-use Rattle.region_eval.specs.RunState.{RunState, Ending, Done, Raised, Waits, then_do, counted, storing, Carrying, carried}
+use Rattle.region_eval.specs.RunState.{Done, Raised, Waits, then_do, counted, storing, Carrying, carried}
 use Rattle.region_eval.specs.BasisConstructors.{constructor_name, constructor_named}
 use Rattle.region_eval.specs.GroundPrimitives.{never, wanted_by}
-use Rattle.region_eval.specs.RegionStore.{Value, Int, Char, Unit, Con, Desc, Address, Object, Str, Tuple, Applied, Packet, PacketOf, Ref, Closure, Group, Maker, Prim, Cache, Store, Around, State, Outcome, no_rule, found, serial_of_type, result_serials, put, stored, alloc, object_at, follow, object_set, NoneFits}
+use Rattle.region_eval.specs.RegionStore.{Value, Int, Char, Unit, Con, Desc, Address, Object, Str, Tuple, Applied, Packet, PacketOf, Ref, Prim, Cache, Store, Around, State, Outcome, no_rule, found, serial_of_type, result_serials, put, stored, alloc, object_at, follow, object_set, NoneFits}
 
 -- ---- a value as a primitive sees it, which has none of functions, packets and references
 

@@ -1,5 +1,5 @@
 -- What the items of a region program come to from a store in which the one region is the global one, which is empty.
-use Rattle.std.specs.Prelude.{ℕ, List, []}
+use Rattle.std.specs.Prelude.{ℕ, []}
 use Rattle.sml_syntax.specs.Page.{start_state}
 use Rattle.region_syntax.specs.RegionTerms.{Program}
 use Rattle.region_eval.specs.RunState.{state_of}

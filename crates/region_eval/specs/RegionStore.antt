@@ -1,5 +1,5 @@
 -- The values of region terms, and the store in which boxed ones lie. Tofte and Talpin's region calculus, stores; numbers are of this project.
-use Rattle.std.specs.Prelude.{ℕ, suc, ℤ, nat_eq, Bool, true, false, List, [], ◌∷◌, ◌++◌, length, map, set, slice_get, Option, Some, None, if◌then◌else◌}
+use Rattle.std.specs.Prelude.{ℕ, suc, ℤ, nat_eq, List, [], ◌∷◌, ◌++◌, length, set, slice_get, Option, Some, None, if◌then◌else◌}
 use Rattle.std.specs.Str.{bytes_eq}
 use Rattle.sml_syntax.specs.declared.datum.Desc as datum
 use Rattle.sml_syntax.specs.declared.cache.CacheId.{CacheId}
