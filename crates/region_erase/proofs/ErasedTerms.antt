@@ -45,7 +45,7 @@ use Rattle.region_syntax.specs.declared.region.RProgram.{RProgram}
 use Rattle.region_syntax.specs.GroundTypes.{GroundType, ground_type}
 use Rattle.region_syntax.specs.GroundTerms as g
 use Rattle.region_syntax.specs.GroundTerms.{ground_pat, ground_pat_form, ground_exp, ground_form, ground_rule, ground_bind, ground_piece, ground_def, ground_dec, ground_argument, ground_exception, ground_program}
-use Rattle.region_syntax.specs.RegionTypes.{RegionType, region_type, erased_type}
+use Rattle.region_syntax.specs.RegionTypes.{RegionType, region_type}
 use Rattle.region_syntax.specs.RegionTerms as r
 use Rattle.region_syntax.specs.RegionTerms.{region_pat, region_pat_form, region_exp, region_form, region_rule, region_bind, region_piece, region_def, region_dec, region_argument, region_program}
 use Rattle.region_syntax.specs.Erasure.{erased_pat, erased_pat_form, erased_pats, erased_exp, erased_form, erased_exps, erased_rules, erased_rule, erased_pieces, erased_piece, erased_defs, erased_def, erased_decs, erased_dec, erased_argument, erased_program}
