@@ -9,6 +9,8 @@ mod calls;
 #[cfg(test)]
 mod copied;
 #[cfg(test)]
+mod erased;
+#[cfg(test)]
 mod list_body;
 #[cfg(test)]
 mod listing;

@@ -1,8 +1,8 @@
 // A region term of each form.
 use crate::copied::{Copied, are_copied, boxed, list, text};
 use region_syntax::{
-    Constructor, Effect, FixDef, MData, MTy, Place, RDec, RExp, RExpForm, RPat, RPatForm, RPiece,
-    RProgram, RRule, RTy,
+    Constructor, Effect, FixDef, MData, MTy, Place, RBind, RDec, RExp, RExpForm, RPat, RPatForm,
+    RPiece, RProgram, RRule, RTy,
 };
 use sml_syntax::{Boxed, Listed, NoMemory};
 use std::alloc::Global;
@@ -112,12 +112,20 @@ fn group(rt: &(impl Abort + AllocGlobal)) -> Listed<FixDef> {
     list(rt, [def])
 }
 
+/// `pat = 1`
+fn binds(rt: &(impl Abort + AllocGlobal), form: RPatForm) -> Listed<RBind> {
+    let bind = RBind {
+        pat: pat(form),
+        exp: one(1),
+    };
+    list(rt, [bind])
+}
+
 pub(crate) fn region_declarations(rt: &(impl Abort + AllocGlobal)) -> [RDec; 3] {
-    let bind = (pat(RPatForm::Any), one(1));
-    let hidden = list(rt, [RDec::Val(list(rt, [(pat(RPatForm::Unit), one(2))]))]);
+    let hidden = list(rt, [RDec::Val(binds(rt, RPatForm::Unit))]);
     let shown = list(rt, [RDec::ValRec(group(rt))]);
     [
-        RDec::Val(list(rt, [bind])),
+        RDec::Val(binds(rt, RPatForm::Any)),
         RDec::ValRec(group(rt)),
         RDec::Local(hidden, shown),
     ]
@@ -160,7 +168,7 @@ pub(crate) fn region_forms(rt: &(impl Abort + AllocGlobal)) -> [RExp; 23] {
     ]
 }
 
-fn region_program(rt: &(impl Abort + AllocGlobal)) -> RProgram {
+pub(crate) fn region_program(rt: &(impl Abort + AllocGlobal)) -> RProgram {
     let data = MData {
         params: 1,
         cons: list(

@@ -1,9 +1,10 @@
 // A specialised term of each form.
 use crate::copied::{Copied, are_copied, boxed, list, text};
 use region_syntax::{
-    Constructor, MData, MDec, MExp, MExpForm, MPat, MPatForm, MPiece, MProgram, MRule, MTy,
+    Constructor, MBind, MData, MDec, MDef, MExp, MExpForm, MPat, MPatForm, MPiece, MProgram, MRule,
+    MTy,
 };
-use sml_syntax::{Boxed, Listed, NoMemory, Text};
+use sml_syntax::{Boxed, Listed, NoMemory};
 use std::alloc::Global;
 use std::process::Abort;
 use std::test::Fail;
@@ -65,16 +66,28 @@ pub(crate) fn ground_patterns(rt: &(impl Abort + AllocGlobal)) -> [MPat; 10] {
     ]
 }
 
-fn group(rt: &(impl Abort + AllocGlobal)) -> Listed<(Text, Listed<MRule>)> {
-    list(rt, [(text(rt, "f"), rules(rt))])
+fn group(rt: &(impl Abort + AllocGlobal)) -> Listed<MDef> {
+    let def = MDef {
+        name: text(rt, "f"),
+        rules: rules(rt),
+    };
+    list(rt, [def])
+}
+
+/// `pat = 1`
+fn binds(rt: &(impl Abort + AllocGlobal), form: MPatForm) -> Listed<MBind> {
+    let bind = MBind {
+        pat: pat(form),
+        exp: one(1),
+    };
+    list(rt, [bind])
 }
 
 pub(crate) fn ground_declarations(rt: &(impl Abort + AllocGlobal)) -> [MDec; 3] {
-    let bind = (pat(MPatForm::Any), one(1));
-    let hidden = list(rt, [MDec::Val(list(rt, [(pat(MPatForm::Unit), one(2))]))]);
+    let hidden = list(rt, [MDec::Val(binds(rt, MPatForm::Unit))]);
     let shown = list(rt, [MDec::ValRec(group(rt))]);
     [
-        MDec::Val(list(rt, [bind])),
+        MDec::Val(binds(rt, MPatForm::Any)),
         MDec::ValRec(group(rt)),
         MDec::Local(hidden, shown),
     ]

@@ -8,12 +8,13 @@ use Rattle.region_syntax.specs.declared.region.RPatForm.{RPatForm}
 use Rattle.region_syntax.specs.declared.region.RExp.{RExp}
 use Rattle.region_syntax.specs.declared.region.RExpForm.{RExpForm}
 use Rattle.region_syntax.specs.declared.region.RRule.{RRule}
+use Rattle.region_syntax.specs.declared.region.RBind.{RBind}
 use Rattle.region_syntax.specs.declared.region.RPiece.{RPiece}
 use Rattle.region_syntax.specs.declared.region.FixDef.{FixDef}
 use Rattle.region_syntax.specs.declared.region.RDec.{RDec}
 use Rattle.region_syntax.specs.RegionTypes.{RegionType, erased_type, region_type}
 use Rattle.region_syntax.specs.RegionTerms as r
-use Rattle.region_syntax.specs.RegionTerms.{region_pat, region_pat_form, region_exp, region_form, region_rule, region_piece, region_def, region_dec, region_argument}
+use Rattle.region_syntax.specs.RegionTerms.{region_pat, region_pat_form, region_exp, region_form, region_rule, region_bind, region_piece, region_def, region_dec, region_argument}
 
 unfoldable mutual
   pub erased_pat : r.Pat → g.Pat
@@ -134,8 +135,8 @@ form_erasure t f = erased_form t (region_form f)
 unfoldable pub rule_erasure : RRule → g.Pat × g.Exp
 rule_erasure rule = erased_rule (region_rule rule)
 
-unfoldable pub binding_erasure : RPat × RExp → g.Pat × g.Exp
-binding_erasure b = (pat_erasure b.0, exp_erasure b.1)
+unfoldable pub bind_erasure : RBind → g.Pat × g.Exp
+bind_erasure b = erased_rule (region_bind b)
 
 unfoldable pub piece_erasure : RPiece → g.Piece
 piece_erasure p = erased_piece (region_piece p)

@@ -11,10 +11,12 @@ use Rattle.region_syntax.specs.declared.specialised.MExp.{MExp}
 use Rattle.region_syntax.specs.declared.specialised.MExpForm.{MExpForm}
 use Rattle.region_syntax.specs.declared.specialised.MRule.{MRule}
 use Rattle.region_syntax.specs.declared.specialised.MPiece.{MPiece}
+use Rattle.region_syntax.specs.declared.specialised.MBind.{MBind}
+use Rattle.region_syntax.specs.declared.specialised.MDef.{MDef}
 use Rattle.region_syntax.specs.declared.specialised.MDec.{MDec}
 use Rattle.region_syntax.specs.declared.specialised.MProgram.{MProgram}
-use Rattle.region_syntax.specs.declared.specialised.MDec.TheOpen.{MDec-F, MExpForm-F, MPiece-F, MExp-F, MRule-F}
-use Rattle.region_syntax.specs.declared.specialised.MDec.TheFolds.{fold-MDec, fold-MExpForm, fold-MPiece, fold-MExp, fold-MRule}
+use Rattle.region_syntax.specs.declared.specialised.MDec.TheOpen.{MDec-F, MExpForm-F, MPiece-F, MBind-F, MDef-F, MExp-F, MRule-F}
+use Rattle.region_syntax.specs.declared.specialised.MDec.TheFolds.{fold-MDec, fold-MExpForm, fold-MPiece, fold-MBind, fold-MDef, fold-MExp, fold-MRule}
 use Rattle.region_syntax.specs.GroundTypes.{GroundType, ground_type}
 
 -- a pattern: its type and its form
@@ -152,7 +154,7 @@ unfoldable pub ground_pat_form : MPatForm → PatForm
 ground_pat_form = fold-MPatForm PatForm Pat pat_form_layer pat_layer
 
 -- the expression that a tree is
-abbrev pub form_layer : MExpForm-F Dec Form Piece Exp (Pat × Exp) → Form
+abbrev pub form_layer : MExpForm-F Dec Form Piece (Pat × Exp) (List ℕ × List (Pat × Exp)) Exp (Pat × Exp) → Form
 form_layer (MExpForm-F.Int n) = Int n
 form_layer (MExpForm-F.Char c) = Char c
 form_layer (MExpForm-F.Str text) = Str text
@@ -174,42 +176,47 @@ form_layer (MExpForm-F.Both a b) = Both a b
 form_layer (MExpForm-F.Either a b) = Either a b
 form_layer (MExpForm-F.Quote ps) = Quote (pieces_of ps)
 
-abbrev pub dec_layer : MDec-F Dec Form Piece Exp (Pat × Exp) → Dec
-dec_layer (MDec-F.Val bs) = val_dec (rules_of (map (λ b. (ground_pat b.0, b.1)) bs))
+abbrev pub dec_layer : MDec-F Dec Form Piece (Pat × Exp) (List ℕ × List (Pat × Exp)) Exp (Pat × Exp) → Dec
+dec_layer (MDec-F.Val bs) = val_dec (rules_of bs)
 dec_layer (MDec-F.ValRec ds) = fun_dec (defs_of ds)
 dec_layer (MDec-F.Local hidden shown) = local_dec (decs_of hidden) (decs_of shown)
 
-abbrev pub piece_layer : MPiece-F Dec Form Piece Exp (Pat × Exp) → Piece
+abbrev pub piece_layer : MPiece-F Dec Form Piece (Pat × Exp) (List ℕ × List (Pat × Exp)) Exp (Pat × Exp) → Piece
 piece_layer (MPiece-F.Plain text) = plain_piece text
 piece_layer (MPiece-F.Anti e) = anti_piece e
 
-abbrev pub exp_layer : MExp-F Dec Form Piece Exp (Pat × Exp) → Exp
+abbrev pub bind_layer : MBind-F Dec Form Piece (Pat × Exp) (List ℕ × List (Pat × Exp)) Exp (Pat × Exp) → Pat × Exp
+bind_layer b = (ground_pat b.pat, b.exp)
+
+abbrev pub def_layer : MDef-F Dec Form Piece (Pat × Exp) (List ℕ × List (Pat × Exp)) Exp (Pat × Exp) → List ℕ × List (Pat × Exp)
+def_layer d = (d.name, d.rules)
+
+abbrev pub exp_layer : MExp-F Dec Form Piece (Pat × Exp) (List ℕ × List (Pat × Exp)) Exp (Pat × Exp) → Exp
 exp_layer e = exp (ground_type e.ty) e.form
 
-abbrev pub rule_layer : MRule-F Dec Form Piece Exp (Pat × Exp) → Pat × Exp
+abbrev pub rule_layer : MRule-F Dec Form Piece (Pat × Exp) (List ℕ × List (Pat × Exp)) Exp (Pat × Exp) → Pat × Exp
 rule_layer r = (ground_pat r.pat, r.body)
 
 unfoldable pub ground_exp : MExp → Exp
-ground_exp = fold-MExp Dec Form Piece Exp (Pat × Exp) dec_layer form_layer piece_layer exp_layer rule_layer
+ground_exp = fold-MExp Dec Form Piece (Pat × Exp) (List ℕ × List (Pat × Exp)) Exp (Pat × Exp) dec_layer form_layer piece_layer bind_layer def_layer exp_layer rule_layer
 
 unfoldable pub ground_form : MExpForm → Form
-ground_form = fold-MExpForm Dec Form Piece Exp (Pat × Exp) dec_layer form_layer piece_layer exp_layer rule_layer
+ground_form = fold-MExpForm Dec Form Piece (Pat × Exp) (List ℕ × List (Pat × Exp)) Exp (Pat × Exp) dec_layer form_layer piece_layer bind_layer def_layer exp_layer rule_layer
 
 unfoldable pub ground_rule : MRule → Pat × Exp
-ground_rule = fold-MRule Dec Form Piece Exp (Pat × Exp) dec_layer form_layer piece_layer exp_layer rule_layer
+ground_rule = fold-MRule Dec Form Piece (Pat × Exp) (List ℕ × List (Pat × Exp)) Exp (Pat × Exp) dec_layer form_layer piece_layer bind_layer def_layer exp_layer rule_layer
 
 unfoldable pub ground_piece : MPiece → Piece
-ground_piece = fold-MPiece Dec Form Piece Exp (Pat × Exp) dec_layer form_layer piece_layer exp_layer rule_layer
+ground_piece = fold-MPiece Dec Form Piece (Pat × Exp) (List ℕ × List (Pat × Exp)) Exp (Pat × Exp) dec_layer form_layer piece_layer bind_layer def_layer exp_layer rule_layer
 
 unfoldable pub ground_dec : MDec → Dec
-ground_dec = fold-MDec Dec Form Piece Exp (Pat × Exp) dec_layer form_layer piece_layer exp_layer rule_layer
+ground_dec = fold-MDec Dec Form Piece (Pat × Exp) (List ℕ × List (Pat × Exp)) Exp (Pat × Exp) dec_layer form_layer piece_layer bind_layer def_layer exp_layer rule_layer
 
--- a binding, and a function of a group
-unfoldable pub ground_binding : MPat × MExp → Pat × Exp
-ground_binding b = (ground_pat b.0, ground_exp b.1)
+unfoldable pub ground_bind : MBind → Pat × Exp
+ground_bind = fold-MBind Dec Form Piece (Pat × Exp) (List ℕ × List (Pat × Exp)) Exp (Pat × Exp) dec_layer form_layer piece_layer bind_layer def_layer exp_layer rule_layer
 
-unfoldable pub ground_def : List ℕ × List MRule → List ℕ × List (Pat × Exp)
-ground_def d = (d.0, map ground_rule d.1)
+unfoldable pub ground_def : MDef → List ℕ × List (Pat × Exp)
+ground_def = fold-MDef Dec Form Piece (Pat × Exp) (List ℕ × List (Pat × Exp)) Exp (Pat × Exp) dec_layer form_layer piece_layer bind_layer def_layer exp_layer rule_layer
 
 -- a datatype: how many parameters it has, and its constructors
 pub record Datatype : Type 0 where

@@ -8,3 +8,4 @@ pub mod Cost
 pub mod PrimitiveTypes
 pub mod RegionTyping
 pub mod TopLevel
+pub mod GroundTyping

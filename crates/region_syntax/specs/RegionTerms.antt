@@ -13,10 +13,11 @@ use Rattle.region_syntax.specs.declared.region.RExpForm.{RExpForm}
 use Rattle.region_syntax.specs.declared.region.RRule.{RRule}
 use Rattle.region_syntax.specs.declared.region.RPiece.{RPiece}
 use Rattle.region_syntax.specs.declared.region.FixDef.{FixDef}
+use Rattle.region_syntax.specs.declared.region.RBind.{RBind}
 use Rattle.region_syntax.specs.declared.region.RDec.{RDec}
 use Rattle.region_syntax.specs.declared.region.RProgram.{RProgram}
-use Rattle.region_syntax.specs.declared.region.RDec.TheOpen.{RDec-F, RExpForm-F, RPiece-F, FixDef-F, RExp-F, RRule-F}
-use Rattle.region_syntax.specs.declared.region.RDec.TheFolds.{fold-RDec, fold-RExpForm, fold-RPiece, fold-FixDef, fold-RExp, fold-RRule}
+use Rattle.region_syntax.specs.declared.region.RDec.TheOpen.{RDec-F, RExpForm-F, RPiece-F, FixDef-F, RBind-F, RExp-F, RRule-F}
+use Rattle.region_syntax.specs.declared.region.RDec.TheFolds.{fold-RDec, fold-RExpForm, fold-RPiece, fold-FixDef, fold-RBind, fold-RExp, fold-RRule}
 use Rattle.region_syntax.specs.GroundTerms.{Datatype, ground_datatype}
 use Rattle.region_syntax.specs.RegionTypes.{RegionType, region_type}
 
@@ -169,7 +170,7 @@ unfoldable pub region_pat_form : RPatForm → PatForm
 region_pat_form = fold-RPatForm PatForm Pat pat_form_layer pat_layer
 
 -- the expression that a tree is
-abbrev pub form_layer : RExpForm-F Dec Form Piece (Head × List (Pat × Exp)) Exp (Pat × Exp) → Form
+abbrev pub form_layer : RExpForm-F Dec Form Piece (Head × List (Pat × Exp)) (Pat × Exp) Exp (Pat × Exp) → Form
 form_layer (RExpForm-F.Int n) = Int n
 form_layer (RExpForm-F.Char c) = Char c
 form_layer (RExpForm-F.Str text at) = Str text at
@@ -194,41 +195,47 @@ form_layer (RExpForm-F.LetRegion rs e) = LetRegion rs e
 form_layer (RExpForm-F.Fix ds e) = Fix (defs_of ds) e
 form_layer (RExpForm-F.Inst name places effects) = Inst name places effects
 
-abbrev pub dec_layer : RDec-F Dec Form Piece (Head × List (Pat × Exp)) Exp (Pat × Exp) → Dec
-dec_layer (RDec-F.Val bs) = val_dec (rules_of (map (λ b. (region_pat b.0, b.1)) bs))
+abbrev pub dec_layer : RDec-F Dec Form Piece (Head × List (Pat × Exp)) (Pat × Exp) Exp (Pat × Exp) → Dec
+dec_layer (RDec-F.Val bs) = val_dec (rules_of bs)
 dec_layer (RDec-F.ValRec ds) = fun_dec (defs_of ds)
 dec_layer (RDec-F.Local hidden shown) = local_dec (decs_of hidden) (decs_of shown)
 
-abbrev pub piece_layer : RPiece-F Dec Form Piece (Head × List (Pat × Exp)) Exp (Pat × Exp) → Piece
+abbrev pub piece_layer : RPiece-F Dec Form Piece (Head × List (Pat × Exp)) (Pat × Exp) Exp (Pat × Exp) → Piece
 piece_layer (RPiece-F.Plain text) = plain_piece text
 piece_layer (RPiece-F.Anti e) = anti_piece e
 
-abbrev pub def_layer : FixDef-F Dec Form Piece (Head × List (Pat × Exp)) Exp (Pat × Exp) → Head × List (Pat × Exp)
+abbrev pub def_layer : FixDef-F Dec Form Piece (Head × List (Pat × Exp)) (Pat × Exp) Exp (Pat × Exp) → Head × List (Pat × Exp)
 def_layer d = (record { name = d.name; regions = d.regions; effects = d.effects; ty = region_type d.ty; at = d.at }, d.rules)
 
-abbrev pub exp_layer : RExp-F Dec Form Piece (Head × List (Pat × Exp)) Exp (Pat × Exp) → Exp
+abbrev pub bind_layer : RBind-F Dec Form Piece (Head × List (Pat × Exp)) (Pat × Exp) Exp (Pat × Exp) → Pat × Exp
+bind_layer b = (region_pat b.pat, b.exp)
+
+abbrev pub exp_layer : RExp-F Dec Form Piece (Head × List (Pat × Exp)) (Pat × Exp) Exp (Pat × Exp) → Exp
 exp_layer e = exp (region_type e.ty) e.form
 
-abbrev pub rule_layer : RRule-F Dec Form Piece (Head × List (Pat × Exp)) Exp (Pat × Exp) → Pat × Exp
+abbrev pub rule_layer : RRule-F Dec Form Piece (Head × List (Pat × Exp)) (Pat × Exp) Exp (Pat × Exp) → Pat × Exp
 rule_layer r = (region_pat r.pat, r.body)
 
 unfoldable pub region_exp : RExp → Exp
-region_exp = fold-RExp Dec Form Piece (Head × List (Pat × Exp)) Exp (Pat × Exp) dec_layer form_layer piece_layer def_layer exp_layer rule_layer
+region_exp = fold-RExp Dec Form Piece (Head × List (Pat × Exp)) (Pat × Exp) Exp (Pat × Exp) dec_layer form_layer piece_layer def_layer bind_layer exp_layer rule_layer
 
 unfoldable pub region_form : RExpForm → Form
-region_form = fold-RExpForm Dec Form Piece (Head × List (Pat × Exp)) Exp (Pat × Exp) dec_layer form_layer piece_layer def_layer exp_layer rule_layer
+region_form = fold-RExpForm Dec Form Piece (Head × List (Pat × Exp)) (Pat × Exp) Exp (Pat × Exp) dec_layer form_layer piece_layer def_layer bind_layer exp_layer rule_layer
 
 unfoldable pub region_rule : RRule → Pat × Exp
-region_rule = fold-RRule Dec Form Piece (Head × List (Pat × Exp)) Exp (Pat × Exp) dec_layer form_layer piece_layer def_layer exp_layer rule_layer
+region_rule = fold-RRule Dec Form Piece (Head × List (Pat × Exp)) (Pat × Exp) Exp (Pat × Exp) dec_layer form_layer piece_layer def_layer bind_layer exp_layer rule_layer
 
 unfoldable pub region_piece : RPiece → Piece
-region_piece = fold-RPiece Dec Form Piece (Head × List (Pat × Exp)) Exp (Pat × Exp) dec_layer form_layer piece_layer def_layer exp_layer rule_layer
+region_piece = fold-RPiece Dec Form Piece (Head × List (Pat × Exp)) (Pat × Exp) Exp (Pat × Exp) dec_layer form_layer piece_layer def_layer bind_layer exp_layer rule_layer
 
 unfoldable pub region_def : FixDef → Head × List (Pat × Exp)
-region_def = fold-FixDef Dec Form Piece (Head × List (Pat × Exp)) Exp (Pat × Exp) dec_layer form_layer piece_layer def_layer exp_layer rule_layer
+region_def = fold-FixDef Dec Form Piece (Head × List (Pat × Exp)) (Pat × Exp) Exp (Pat × Exp) dec_layer form_layer piece_layer def_layer bind_layer exp_layer rule_layer
+
+unfoldable pub region_bind : RBind → Pat × Exp
+region_bind = fold-RBind Dec Form Piece (Head × List (Pat × Exp)) (Pat × Exp) Exp (Pat × Exp) dec_layer form_layer piece_layer def_layer bind_layer exp_layer rule_layer
 
 unfoldable pub region_dec : RDec → Dec
-region_dec = fold-RDec Dec Form Piece (Head × List (Pat × Exp)) Exp (Pat × Exp) dec_layer form_layer piece_layer def_layer exp_layer rule_layer
+region_dec = fold-RDec Dec Form Piece (Head × List (Pat × Exp)) (Pat × Exp) Exp (Pat × Exp) dec_layer form_layer piece_layer def_layer bind_layer exp_layer rule_layer
 
 -- a program
 abbrev pub region_argument : Option RTy → Option RegionType

@@ -7,6 +7,8 @@ mod region;
 mod specialised;
 mod types;
 
-pub use region::{FixDef, RDec, RExp, RExpForm, RPat, RPatForm, RPiece, RProgram, RRule};
-pub use specialised::{Constructor, MDec, MExp, MExpForm, MPat, MPatForm, MPiece, MProgram, MRule};
+pub use region::{FixDef, RBind, RDec, RExp, RExpForm, RPat, RPatForm, RPiece, RProgram, RRule};
+pub use specialised::{
+    Constructor, MBind, MDec, MDef, MExp, MExpForm, MPat, MPatForm, MPiece, MProgram, MRule,
+};
 pub use types::{Effect, MData, MTy, Place, RTy};

@@ -94,6 +94,14 @@ pub enum RPiece {
     Anti(RExp),
 }
 
+/// `pat = exp`
+#[cycle(region_terms)]
+#[derive(PartialEq, Eq, Drop)]
+pub struct RBind {
+    pub pat: RPat,
+    pub exp: RExp,
+}
+
 /// A function of a group: the regions and effect variables that it binds, its type, and where its
 /// closure lies.
 #[cycle(region_terms)]
@@ -112,7 +120,7 @@ pub struct FixDef {
 #[derive(PartialEq, Eq, Drop)]
 pub enum RDec {
     /// `val pat = exp and ..`
-    Val(Listed<(RPat, RExp)>),
+    Val(Listed<RBind>),
     /// A group of functions, over all that its names scope over.
     ValRec(Listed<FixDef>),
     Local(Listed<RDec>, Listed<RDec>),

@@ -97,14 +97,30 @@ pub enum MPiece {
     Anti(MExp),
 }
 
+/// `pat = exp`
+#[cycle(specialised_terms)]
+#[derive(PartialEq, Eq, Drop)]
+pub struct MBind {
+    pub pat: MPat,
+    pub exp: MExp,
+}
+
+/// A function of a group: `name = fn match`
+#[cycle(specialised_terms)]
+#[derive(PartialEq, Eq, Drop)]
+pub struct MDef {
+    pub name: Text,
+    pub rules: Listed<MRule>,
+}
+
 /// A declaration of values.
 #[cycle(specialised_terms)]
 #[derive(PartialEq, Eq, Drop)]
 pub enum MDec {
     /// `val pat = exp and ..`
-    Val(Listed<(MPat, MExp)>),
+    Val(Listed<MBind>),
     /// `val rec name = fn match and ..`
-    ValRec(Listed<(Text, Listed<MRule>)>),
+    ValRec(Listed<MDef>),
     Local(Listed<MDec>, Listed<MDec>),
 }
 

@@ -16,5 +16,5 @@ invariant-copy::region::copy_decs-loop-dec l = l.copies.items ≡ take l.dec-ind
 abbrev pub invariant-copy::region::copy_group-loop-def : goal.invariant-copy::region::copy_group-loop-def
 invariant-copy::region::copy_group-loop-def l = l.copies.items ≡ take l.def-index l.def-items
 
-abbrev pub invariant-region::RDec::try_copy-loop-bind : goal.invariant-region::RDec::try_copy-loop-bind
-invariant-region::RDec::try_copy-loop-bind l = l.copies.items ≡ take l.bind-index l.bind-items
+abbrev pub invariant-copy::region::copy_binds-loop-bind : goal.invariant-copy::region::copy_binds-loop-bind
+invariant-copy::region::copy_binds-loop-bind l = l.copies.items ≡ take l.bind-index l.bind-items

@@ -13,8 +13,8 @@ invariant-copy::specialised::copy_pieces-loop-piece l = l.copies.items ≡ take 
 abbrev pub invariant-copy::specialised::copy_decs-loop-dec : goal.invariant-copy::specialised::copy_decs-loop-dec
 invariant-copy::specialised::copy_decs-loop-dec l = l.copies.items ≡ take l.dec-index l.dec-items
 
-abbrev pub invariant-specialised::MDec::try_copy-loop-bind : goal.invariant-specialised::MDec::try_copy-loop-bind
-invariant-specialised::MDec::try_copy-loop-bind l = l.copies.items ≡ take l.bind-index l.bind-items
+abbrev pub invariant-copy::specialised::copy_binds-loop-bind : goal.invariant-copy::specialised::copy_binds-loop-bind
+invariant-copy::specialised::copy_binds-loop-bind l = l.copies.items ≡ take l.bind-index l.bind-items
 
-abbrev pub invariant-specialised::MDec::try_copy-loop-def : goal.invariant-specialised::MDec::try_copy-loop-def
-invariant-specialised::MDec::try_copy-loop-def l = l.copies.items ≡ take l.def-index l.def-items
+abbrev pub invariant-copy::specialised::copy_group-loop-def : goal.invariant-copy::specialised::copy_group-loop-def
+invariant-copy::specialised::copy_group-loop-def l = l.copies.items ≡ take l.def-index l.def-items

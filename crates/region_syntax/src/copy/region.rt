@@ -3,7 +3,7 @@ ghost use Rattle.std.specs.Prelude.{◌≡◌, IfOk};
 
 use super::lists::{copy_effects, copy_numbers, copy_places};
 use super::types::copy_datatypes;
-use crate::{FixDef, RDec, RExp, RExpForm, RPat, RPatForm, RPiece, RProgram, RRule, RTy};
+use crate::{FixDef, RBind, RDec, RExp, RExpForm, RPat, RPatForm, RPiece, RProgram, RRule, RTy};
 use sml_syntax::{Boxed, Listed, NoMemory, Text};
 use std::alloc::Global;
 
@@ -194,20 +194,25 @@ impl FixDef {
     }
 }
 
+impl RBind {
+    #[cycle(region_term_copies)]
+    pub fn try_copy(&self, alloc: Global) -> Result<RBind, NoMemory>
+        ensures { IfOk result (λ copy. copy ≡ self.now) }
+    {
+        Ok(RBind {
+            pat: self.pat.try_copy(alloc)?,
+            exp: self.exp.try_copy(alloc)?,
+        })
+    }
+}
+
 impl RDec {
     #[cycle(region_term_copies)]
     pub fn try_copy(&self, alloc: Global) -> Result<RDec, NoMemory>
         ensures { IfOk result (λ copy. copy ≡ self.now) }
     {
         match self {
-            RDec::Val(binds) => {
-                let mut copies = Vec::new(alloc);
-                for bind in binds.as_slice() {
-                    let pat = bind.0.try_copy(alloc)?;
-                    copies.push((pat, bind.1.try_copy(alloc)?))?;
-                }
-                Ok(RDec::Val(Listed::of(copies)))
-            }
+            RDec::Val(binds) => Ok(RDec::Val(copy_binds(alloc, binds)?)),
             RDec::ValRec(group) => Ok(RDec::ValRec(copy_group(alloc, group)?)),
             RDec::Local(hidden, shown) => {
                 let hidden = copy_decs(alloc, hidden)?;
@@ -275,6 +280,17 @@ fn copy_decs(alloc: Global, decs: &Listed<RDec>) -> Result<Listed<RDec>, NoMemor
     let mut copies = Vec::new(alloc);
     for dec in decs.as_slice() {
         copies.push(dec.try_copy(alloc)?)?;
+    }
+    Ok(Listed::of(copies))
+}
+
+#[cycle(region_term_copies)]
+fn copy_binds(alloc: Global, binds: &Listed<RBind>) -> Result<Listed<RBind>, NoMemory>
+    ensures { IfOk result (λ copy. copy ≡ binds.now) }
+{
+    let mut copies = Vec::new(alloc);
+    for bind in binds.as_slice() {
+        copies.push(bind.try_copy(alloc)?)?;
     }
     Ok(Listed::of(copies))
 }

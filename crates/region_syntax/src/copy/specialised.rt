@@ -2,7 +2,7 @@
 ghost use Rattle.std.specs.Prelude.{◌≡◌, IfOk};
 
 use super::types::{copy_constructors, copy_datatypes};
-use crate::{MDec, MExp, MExpForm, MPat, MPatForm, MPiece, MProgram, MRule};
+use crate::{MBind, MDec, MDef, MExp, MExpForm, MPat, MPatForm, MPiece, MProgram, MRule};
 use sml_syntax::{Boxed, Listed, NoMemory};
 use std::alloc::Global;
 
@@ -139,28 +139,38 @@ impl MPiece {
     }
 }
 
+impl MBind {
+    #[cycle(specialised_term_copies)]
+    pub fn try_copy(&self, alloc: Global) -> Result<MBind, NoMemory>
+        ensures { IfOk result (λ copy. copy ≡ self.now) }
+    {
+        Ok(MBind {
+            pat: self.pat.try_copy(alloc)?,
+            exp: self.exp.try_copy(alloc)?,
+        })
+    }
+}
+
+impl MDef {
+    #[cycle(specialised_term_copies)]
+    pub fn try_copy(&self, alloc: Global) -> Result<MDef, NoMemory>
+        ensures { IfOk result (λ copy. copy ≡ self.now) }
+    {
+        Ok(MDef {
+            name: self.name.try_copy(alloc)?,
+            rules: copy_rules(alloc, &self.rules)?,
+        })
+    }
+}
+
 impl MDec {
     #[cycle(specialised_term_copies)]
     pub fn try_copy(&self, alloc: Global) -> Result<MDec, NoMemory>
         ensures { IfOk result (λ copy. copy ≡ self.now) }
     {
         match self {
-            MDec::Val(binds) => {
-                let mut copies = Vec::new(alloc);
-                for bind in binds.as_slice() {
-                    let pat = bind.0.try_copy(alloc)?;
-                    copies.push((pat, bind.1.try_copy(alloc)?))?;
-                }
-                Ok(MDec::Val(Listed::of(copies)))
-            }
-            MDec::ValRec(group) => {
-                let mut copies = Vec::new(alloc);
-                for def in group.as_slice() {
-                    let name = def.0.try_copy(alloc)?;
-                    copies.push((name, copy_rules(alloc, &def.1)?))?;
-                }
-                Ok(MDec::ValRec(Listed::of(copies)))
-            }
+            MDec::Val(binds) => Ok(MDec::Val(copy_binds(alloc, binds)?)),
+            MDec::ValRec(group) => Ok(MDec::ValRec(copy_group(alloc, group)?)),
             MDec::Local(hidden, shown) => {
                 let hidden = copy_decs(alloc, hidden)?;
                 Ok(MDec::Local(hidden, copy_decs(alloc, shown)?))
@@ -216,6 +226,28 @@ fn copy_decs(alloc: Global, decs: &Listed<MDec>) -> Result<Listed<MDec>, NoMemor
     let mut copies = Vec::new(alloc);
     for dec in decs.as_slice() {
         copies.push(dec.try_copy(alloc)?)?;
+    }
+    Ok(Listed::of(copies))
+}
+
+#[cycle(specialised_term_copies)]
+fn copy_binds(alloc: Global, binds: &Listed<MBind>) -> Result<Listed<MBind>, NoMemory>
+    ensures { IfOk result (λ copy. copy ≡ binds.now) }
+{
+    let mut copies = Vec::new(alloc);
+    for bind in binds.as_slice() {
+        copies.push(bind.try_copy(alloc)?)?;
+    }
+    Ok(Listed::of(copies))
+}
+
+#[cycle(specialised_term_copies)]
+fn copy_group(alloc: Global, group: &Listed<MDef>) -> Result<Listed<MDef>, NoMemory>
+    ensures { IfOk result (λ copy. copy ≡ group.now) }
+{
+    let mut copies = Vec::new(alloc);
+    for def in group.as_slice() {
+        copies.push(def.try_copy(alloc)?)?;
     }
     Ok(Listed::of(copies))
 }

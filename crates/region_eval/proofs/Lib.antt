@@ -1,0 +1,11 @@
+pub mod Relations
+pub mod Rows
+pub mod GroundPatterns
+pub mod GroundRows
+pub mod GroundExpressions
+pub mod GroundLevels
+pub mod RegionPatterns
+pub mod RegionRows
+pub mod RegionExpressions
+pub mod RegionLevels
+pub mod Computed

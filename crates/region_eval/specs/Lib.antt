@@ -1,0 +1,13 @@
+pub mod RunState
+pub mod GroundValues
+pub mod FreeNames
+pub mod BasisConstructors
+pub mod GroundPrimitives
+pub mod GroundEvaluation
+pub mod Heights
+pub mod GroundPage
+pub mod RegionStore
+pub mod RegionPrimitives
+pub mod RegionEvaluation
+pub mod RegionRun
+pub mod Examples
