@@ -12,8 +12,14 @@ use web_prims::prelude;
 /// Scripts, each with the refusal that it gets; none is the empty text.
 const ROWS: [(&str, &str); 44] = [
     ("", ""),
-    ("fun id x = x val _ = Web.write (Int.toString (id 4) ^ id \"k\")", ""),
-    ("val r = ref []\nval _ = r := [1]\nval _ = r := [\"a\"]\n", "Ill 32"),
+    (
+        "fun id x = x val _ = Web.write (Int.toString (id 4) ^ id \"k\")",
+        "",
+    ),
+    (
+        "val r = ref []\nval _ = r := [1]\nval _ = r := [\"a\"]\n",
+        "Ill 32",
+    ),
     ("val _ = x", "Unbound 8"),
     // the first of several names without a binding comes before any error of types
     ("val _ = 1 2 val _ = (b, a)", "Unbound 21"),
@@ -22,27 +28,60 @@ const ROWS: [(&str, &str); 44] = [
     ("fun f (A x) = x", "Unbound 7"),
     // the value restriction
     ("val f = fn x => x val _ = (f 1, f \"a\")", ""),
-    ("val f = (fn x => x) (fn x => x) val _ = (f 1, f \"a\")", "Ill 32"),
+    (
+        "val f = (fn x => x) (fn x => x) val _ = (f 1, f \"a\")",
+        "Ill 32",
+    ),
     ("val n = nil val _ = (1 :: n, \"a\" :: n)", ""),
     ("val n = ref nil val _ = (n := [1]; n := [\"a\"])", "Ill 16"),
-    ("val n = SOME nil val _ = (n = SOME [1], n = SOME [\"a\"])", ""),
-    ("fun f () = ref nil val _ = (f () := [1]; f () := [\"a\"])", ""),
+    (
+        "val n = SOME nil val _ = (n = SOME [1], n = SOME [\"a\"])",
+        "",
+    ),
+    (
+        "fun f () = ref nil val _ = (f () := [1]; f () := [\"a\"])",
+        "",
+    ),
     // equality
     ("val _ = (fn x => x) = (fn x => x)", "Ill 0"),
     ("val _ = Fail \"a\" = Fail \"b\"", "Ill 0"),
-    ("fun same (x, y) = x = y val _ = same (1, 2) val _ = same (\"a\", \"b\")", ""),
+    (
+        "fun same (x, y) = x = y val _ = same (1, 2) val _ = same (\"a\", \"b\")",
+        "",
+    ),
     ("fun same (x, y) = x = y val _ = same (hd, hd)", "Ill 24"),
-    ("datatype 'a t = A of 'a ref val _ = A (ref 1) = A (ref 2)", ""),
-    ("datatype 'a t = A of 'a ref val _ = fn (x : (int -> int) t) => x = x", "Ill 28"),
-    ("datatype t = A of int -> int val _ = fn (x : t) => x = x", "Ill 29"),
-    ("datatype t = A of u and u = B of t | C val _ = A C = A C", ""),
-    ("datatype t = A of u and u = B of t | C of exn val _ = fn (x : t) => x = x", "Ill 46"),
-    ("datatype ''a t = A of ''a val _ = A 1 val _ = A hd", "Ill 38"),
+    (
+        "datatype 'a t = A of 'a ref val _ = A (ref 1) = A (ref 2)",
+        "",
+    ),
+    (
+        "datatype 'a t = A of 'a ref val _ = fn (x : (int -> int) t) => x = x",
+        "Ill 28",
+    ),
+    (
+        "datatype t = A of int -> int val _ = fn (x : t) => x = x",
+        "Ill 29",
+    ),
+    (
+        "datatype t = A of u and u = B of t | C val _ = A C = A C",
+        "",
+    ),
+    (
+        "datatype t = A of u and u = B of t | C of exn val _ = fn (x : t) => x = x",
+        "Ill 46",
+    ),
+    (
+        "datatype ''a t = A of ''a val _ = A 1 val _ = A hd",
+        "Ill 38",
+    ),
     ("type ''a t = ''a list val _ = nil : (int -> int) t", ""),
     ("val _ = ref hd = ref hd", ""),
     // new type names are new
     ("val r = ref nil datatype t = A val _ = r := [A]", "Ill 31"),
-    ("datatype t = A datatype t = B fun f A = B val _ = f (f A)", "Ill 42"),
+    (
+        "datatype t = A datatype t = B fun f A = B val _ = f (f A)",
+        "Ill 42",
+    ),
     ("val id = fn x => x datatype t = A val _ = id A", ""),
     // constructors that are bound anew
     ("datatype t = A | B fun f A = 1 | f B = 2 val _ = f A", ""),
@@ -51,7 +90,10 @@ const ROWS: [(&str, &str); 44] = [
     ("val NONE = NONE", ""),
     ("fun f (ref x) = x val _ = f (ref 1) + 1", ""),
     // groups of functions
-    ("fun f x = x and g y = f y val _ = (f 1, f \"a\", g 1, g \"a\")", ""),
+    (
+        "fun f x = x and g y = f y val _ = (f 1, f \"a\", g 1, g \"a\")",
+        "",
+    ),
     ("fun f x = x and g y = (f 1, f \"a\")", "Ill 0"),
     ("fun f x = f", "Ill 0"),
     // what no declaration may bind
@@ -61,7 +103,10 @@ const ROWS: [(&str, &str); 44] = [
     ("val (x, x) = (1, 2)", "Ill 0"),
     ("datatype t = A | A", "Ill 0"),
     // abbreviations
-    ("type ('a, 'b) p = 'b * 'a val _ = (1, \"a\") : (string, int) p", ""),
+    (
+        "type ('a, 'b) p = 'b * 'a val _ = (1, \"a\") : (string, int) p",
+        "",
+    ),
     ("type 'a t = 'a list val _ = nil : t", "Ill 20"),
 ];
 
