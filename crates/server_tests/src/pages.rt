@@ -102,18 +102,12 @@ fn refuses_other_scripts(rt: HostRuntime) -> Result<(), Fail> {
         "",
         "val _ = 1",
         "val x = Web.write \"a\"",
-        "val_ = Web.write \"a\"",
-        "val _ = Web.write \"a\" ^ \"b\"",
-        "val _ = Web.write (\"a\" ^^ \"b\")",
         "val _ = Web.write (\"a\" ^ (\"b\" ^ \"c\"))",
-        "val _ = Web.write ()",
-        "val _ = Web.writex \"a\"",
         "val _ = Web.write \"a\\n\"",
         "val _ = Web.write \"a\"\nval _ = Web.write \"b\"",
         "val _ = Web.write (Int.toString (10000 * 1))",
         "val _ = Web.write (Int.toString (~1 * 1))",
         "val _ = Web.write (Int.toString 6)",
-        "val _ = Web.write Int.toString (6 * 7)",
         "val _ = Web.write (\"a\"^\"b\"^\"c\"^\"d\"^\"e\"^\"f\"^\"g\"^\"h\"^\"i\"^\"j\"^\"k\"^\"l\"^\"m\"^\"n\"^\"o\"^\"p\"^\"q\")",
     ] {
         check(
@@ -154,6 +148,24 @@ fn refuses_mistakes_with_their_places(rt: HostRuntime) -> Result<(), Fail> {
         (
             "exception E = F",
             "refused hello.sml 10 Unsupported Replication\n",
+        ),
+        ("val_ = Web.write \"a\"", "refused hello.sml 0 Unbound\n"),
+        ("val _ = Web.writex \"a\"", "refused hello.sml 8 Unbound\n"),
+        (
+            "val _ = Web.write (\"a\" ^^ \"b\")",
+            "refused hello.sml 23 Unbound\n",
+        ),
+        (
+            "val _ = Web.write \"a\" ^ \"b\"",
+            "refused hello.sml 0 Ill\n",
+        ),
+        (
+            "val _ = 1\nval _ = Web.write ()",
+            "refused hello.sml 10 Ill\n",
+        ),
+        (
+            "val _ = Web.write Int.toString (6 * 7)",
+            "refused hello.sml 0 Ill\n",
         ),
     ] {
         check(

@@ -8,14 +8,14 @@ use Rattle.smlserver_top.specs.declared.page.Stop.TheVariants.{BadWords, Refused
 use Rattle.smlserver_top.specs.declared.refusal.ScriptRefusal.{ScriptRefusal}
 use Rattle.smlserver_top.specs.declared.refusal.ScriptRefusal.TheVariants as script
 use Rattle.smlserver_top.specs.declared.refusal.Reason.{Reason}
-use Rattle.smlserver_top.specs.declared.refusal.Reason.TheVariants.{FileFault, NotBuilt, Mistaken}
+use Rattle.smlserver_top.specs.declared.refusal.Reason.TheVariants.{FileFault, NotBuilt, Mistaken, Ill}
 use Rattle.smlserver_top.specs.declared.part.Part.{Part}
 use Rattle.smlserver_top.specs.Straight.{IsStraight}
 use Rattle.smlserver_top.specs.Project.{IsProject}
 use Rattle.smlserver_top.specs.Words.{IsPageCommand}
 use Rattle.sml_syntax.specs.Page.{PageOf, Finished, html_type}
 use Rattle.smlserver_top.specs.Parts.{text_of}
-use Rattle.smlserver_top.specs.Reasons.{HasTree, refusal_line}
+use Rattle.smlserver_top.specs.Reasons.{HasBoundTree, refusal_line}
 use Rattle.smlserver_top.proofs.Evaluated.{straight_page}
 use Rattle.smlserver_top.specs.Page.{project_most, script_most, HoldsText, LeadsTo, HasBody, HasNoParts, IsPage, IsBadProject, IsRefused, HasCause, HasScriptCause, IsAnswer, IsUnfinished, bad_words_line}
 
@@ -47,6 +47,13 @@ refused_script contents now before after words file text bytes refusal (Mistaken
       script_held = subst (λ c. HoldsText c script_most file text) same held;
       mistaken = subst (λ t. HasScriptCause t (script.Refused (Mistaken place mistake))) b (subst (HasScriptCause bytes) e cause);
     }
+refused_script contents now before after words file text bytes refusal (Ill place) leads same held b cause e =
+    record {
+      leads = leads;
+      script = text;
+      script_held = subst (λ c. HoldsText c script_most file text) same held;
+      ill = subst (λ t. HasScriptCause t (script.Refused (Ill place))) b (subst (HasScriptCause bytes) e cause);
+    }
 
 -- what a failed write left of a line
 pub bad_words_begun : (contents : Contents) (before after : ℕ) (words : List (List ℕ)) (stop : Stop) (old new : Option (List ℕ)) (bytes : List ℕ) → stop ≡ BadWords → HasCause contents before after words stop → bytes ≡ bad_words_line → GrewByFront old bytes new → IsUnfinished old new (IsAnswer contents before after words)
@@ -57,7 +64,7 @@ refusal_begun contents before after words stop file reason old new bytes line e 
     inr (bytes, inr (inr (file, reason, subst (HasCause contents before after words) e cause, b ∙ l)), grew)
 
 -- the evaluation of straight declarations gives the text of their parts
-pub has_body : (script : List ℕ) (program : Program) (items : List Dec) (parts : List Part) (body : List ℕ) → HasTree script program → items ≡ program.items → IsStraight items parts → body ≡ text_of parts → HasBody script body
+pub has_body : (script : List ℕ) (program : Program) (items : List Dec) (parts : List Part) (body : List ℕ) → HasBoundTree script program → items ≡ program.items → IsStraight items parts → body ≡ text_of parts → HasBody script body
 has_body script program items parts body tree same form e =
     let straight = subst (λ decs. IsStraight decs parts) same form in
     record {
@@ -68,7 +75,7 @@ has_body script program items parts body tree same form e =
       evaluated = subst (λ t. PageOf program.items [] [] [] [] (Finished 200 html_type t)) (sym e) (straight_page program.items parts straight [] []);
     }
 
-pub no_parts : (script : List ℕ) (program : Program) (items : List Dec) → HasTree script program → items ≡ program.items → ((parts : List Part) → IsStraight items parts → ⊥) → HasNoParts script
+pub no_parts : (script : List ℕ) (program : Program) (items : List Dec) → HasBoundTree script program → items ≡ program.items → ((parts : List Part) → IsStraight items parts → ⊥) → HasNoParts script
 no_parts script program items tree same none =
     record { program = program; tree = tree; none = λ parts s. none parts (subst (λ decs. IsStraight decs parts) (sym same) s) }
 

@@ -7,14 +7,15 @@ use Rattle.smlserver_top.specs.declared.refusal.ScriptRefusal.{ScriptRefusal}
 use Rattle.smlserver_top.specs.declared.refusal.ScriptRefusal.TheVariants as script
 use Rattle.smlserver_top.specs.declared.refusal.Mistake.{Mistake}
 use Rattle.smlserver_top.specs.declared.refusal.Reason.{Reason}
-use Rattle.smlserver_top.specs.declared.refusal.Reason.TheVariants.{FileFault, NotBuilt, Mistaken}
+use Rattle.smlserver_top.specs.declared.refusal.Reason.TheVariants.{FileFault, NotBuilt, Mistaken, Ill}
 use Rattle.smlserver_top.specs.declared.part.Part.{Part}
 use Rattle.sml_syntax.specs.declared.tree.Program.{Program}
 use Rattle.sml_syntax.specs.Page.{PageOf, Finished, html_type}
 use Rattle.smlserver_top.specs.Straight.{IsStraight}
 use Rattle.smlserver_top.specs.Project.{IsProject}
 use Rattle.smlserver_top.specs.Words.{IsPageCommand, AreBadWords}
-use Rattle.smlserver_top.specs.Reasons.{HasTree, IsMistaken, refusal_line}
+use Rattle.sml_syntax.specs.PreludeText.{prelude_text}
+use Rattle.smlserver_top.specs.Reasons.{HasNoTree, HasBoundTree, IsMistaken, IsIll, refusal_line}
 
 -- the greatest lengths of a project file and of a script
 abbrev pub project_most : ℕ
@@ -53,15 +54,15 @@ pub record LeadsTo (contents : Contents) (words : List (List ℕ)) (file : List 
 -- databases or answers, makes no call and ends with this body
 pub record HasBody (script body : List ℕ) : Type 0 where
   pub program : Program
-  pub tree : HasTree script program
+  pub tree : HasBoundTree script program
   pub parts : List Part
   pub form : IsStraight program.items parts
   pub evaluated : PageOf program.items [] [] [] [] (Finished 200 html_type body)
 
--- the script has a tree, and this is not of the form that is run
+-- the script has a tree all of whose names are bound, and this is not of the form that is run
 pub record HasNoParts (script : List ℕ) : Type 0 where
   pub program : Program
-  pub tree : HasTree script program
+  pub tree : HasBoundTree script program
   pub none : (parts : List Part) → IsStraight program.items parts → ⊥
 
 -- the page that the words ask for has this body: that of the script under the path
@@ -95,11 +96,19 @@ pub record IsMistakenScript (contents : Contents) (words : List (List ℕ)) (fil
   pub script_held : HoldsText contents script_most file script
   pub mistaken : IsMistaken script found
 
+-- the project leads to this file, in whose text no types were found for the item at this place
+pub record IsIllScript (contents : Contents) (words : List (List ℕ)) (file : List ℕ) (place : ℕ) : Type 0 where
+  pub leads : LeadsTo contents words file
+  pub script : List ℕ
+  pub script_held : HoldsText contents script_most file script
+  pub ill : IsIll script place
+
 -- why a file is refused, by its reason
 abbrev pub IsRefused : Contents → ℕ → ℕ → List (List ℕ) → List ℕ → Reason → Type 0
 IsRefused contents before after words file FileFault = IsAskedFor contents words file × IsMissing contents before after file
 IsRefused contents before after words file NotBuilt = IsNotBuilt contents words file
 IsRefused contents before after words file (Mistaken place mistake) = IsMistakenScript contents words file (place, mistake)
+IsRefused contents before after words file (Ill place) = IsIllScript contents words file place
 
 -- why there is no page
 abbrev pub HasCause : Contents → ℕ → ℕ → List (List ℕ) → Stop → Type 0
@@ -114,10 +123,17 @@ HasReadCause contents before after most name (Refused file NotBuilt) = (file ≡
 HasReadCause contents before after most name NoMemory = Unit {0}
 HasReadCause contents before after most name _ = ⊥
 
+-- why a text has no tree
+abbrev pub HasTreeCause : List ℕ → ScriptRefusal → Type 0
+HasTreeCause text (script.Refused (Mistaken place mistake)) = HasNoTree text (place, mistake)
+HasTreeCause text (script.Refused _) = ⊥
+HasTreeCause text script.NoMemory = Unit {0}
+
 -- why a script has no body
 abbrev pub HasScriptCause : List ℕ → ScriptRefusal → Type 0
 HasScriptCause text (script.Refused NotBuilt) = HasNoParts text
 HasScriptCause text (script.Refused (Mistaken place mistake)) = IsMistaken text (place, mistake)
+HasScriptCause text (script.Refused (Ill place)) = IsIll text place
 HasScriptCause text (script.Refused FileFault) = ⊥
 HasScriptCause text script.NoMemory = Unit {0}
 
@@ -130,6 +146,10 @@ not_built_line file = refusal_line file NotBuilt
 
 abbrev pub mistaken_line : List ℕ → ℕ × Mistake → List ℕ
 mistaken_line file found = refusal_line file (Mistaken found.0 found.1)
+
+-- the line of a script that was found to be ill at some place
+abbrev pub IsIllLine : Contents → List (List ℕ) → List ℕ → List ℕ → Type 0
+IsIllLine contents words file line = (place : ℕ) × IsIllScript contents words file place × (line ≡ refusal_line file (Ill place))
 
 -- the exit statuses
 abbrev pub IsStatus : ℕ → Type 0

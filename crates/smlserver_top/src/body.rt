@@ -5,7 +5,7 @@ ghost use Rattle.smlserver_top.specs.Page.{HasBody, HasScriptCause};
 use crate::compile::written;
 use crate::refusal::{Reason, ScriptRefusal};
 use crate::straight::{StraightError, straight_parts};
-use crate::syntax::script_tree;
+use crate::typing::script_tree;
 use sml_syntax::Text;
 use std::alloc::Global;
 

@@ -12,6 +12,7 @@ mod run;
 mod spelling;
 mod straight;
 mod syntax;
+mod typing;
 mod words;
 
 pub use run::run_words;

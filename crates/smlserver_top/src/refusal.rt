@@ -16,6 +16,7 @@ pub(crate) enum Mistake {
     Unexpected,
     TooDeep,
     Unsupported(Lack),
+    Unbound,
 }
 
 /// Why a file is refused.
@@ -25,6 +26,8 @@ pub(crate) enum Reason {
     NotBuilt,
     /// The mistake that is met first, and the number of bytes before its place.
     Mistaken(u64, Mistake),
+    /// No types were found for the item that begins behind so many bytes.
+    Ill(u64),
 }
 
 /// Why a script has no body.
@@ -83,6 +86,7 @@ fn push_mistake(line: &mut Vec<u8>, mistake: Mistake) -> Result<(), NoMemory>
             line.extend_from_slice(b"Unsupported ")?;
             line.extend_from_slice(lack_name(lack))?;
         }
+        Mistake::Unbound => line.extend_from_slice(b"Unbound")?,
     }
     Ok(())
 }
@@ -95,6 +99,7 @@ fn push_reason(line: &mut Vec<u8>, reason: Reason) -> Result<(), NoMemory>
         Reason::FileFault => line.extend_from_slice(b"FileFault")?,
         Reason::NotBuilt => line.extend_from_slice(b"NotBuilt")?,
         Reason::Mistaken(_, mistake) => push_mistake(line, mistake)?,
+        Reason::Ill(_) => line.extend_from_slice(b"Ill")?,
     }
     Ok(())
 }
@@ -104,7 +109,7 @@ fn place(reason: Reason) -> u64
 {
     match reason {
         Reason::FileFault | Reason::NotBuilt => 0,
-        Reason::Mistaken(place, _) => place,
+        Reason::Mistaken(place, _) | Reason::Ill(place) => place,
     }
 }
 

@@ -2,7 +2,7 @@
 ghost use Rattle.std.specs.Prelude.{◌≡◌, ◌⊎◌, ◌<◌, ◌≤◌, ℕ, List, map, IfOk};
 ghost use Rattle.outside_world.specs.Told.{Rose, grown, GrewByFront};
 ghost use Rattle.smlserver_top.specs.Reasons.{refusal_line};
-ghost use Rattle.smlserver_top.specs.Page.{IsStatus, IsPage, IsNotBuilt, IsMistakenScript, IsRefused, IsAnswer, IsUnfinished, AreTold, bad_words_line, not_built_line, mistaken_line};
+ghost use Rattle.smlserver_top.specs.Page.{IsStatus, IsPage, IsNotBuilt, IsMistakenScript, IsIllLine, IsRefused, IsAnswer, IsUnfinished, AreTold, bad_words_line, not_built_line, mistaken_line};
 ghost use Rattle.smlserver_top.specs.Words.{AreBadWords};
 
 use crate::page::{Stop, page_body};
@@ -80,13 +80,16 @@ pub fn run_words<F: Files, S: Source, K: Sink, C: Clock>(
         × IsRefused (F.contents files.old) (F.file_count files.old) (F.file_count files.new) (map (λ w. w.now) words.now) file reason
         × (K.written output.new ≡ grown (K.written output.old) (refusal_line file reason)) }
 
-    // Where the files tell what they hold, a file that isn't of its form is refused as such, unless a read failed.
+    // Where the files tell what they hold, a file that isn't of its form is refused as such, unless a read failed or no types
+    // were found for its script.
     ensures not_built { AreTold (F.contents files.old) → (file : List ℕ)
         → IsNotBuilt (F.contents files.old) (map (λ w. w.now) words.now) file
-        → ((result ≡ 3) × ((K.written output.new ≡ grown (K.written output.old) (not_built_line file)) ⊎ Rose (F.file_count files.old) (F.file_count files.new)))
+        → ((result ≡ 3) × ((K.written output.new ≡ grown (K.written output.old) (not_built_line file))
+        ⊎ (((line : List ℕ) × IsIllLine (F.contents files.old) (map (λ w. w.now) words.now) file line × (K.written output.new ≡ grown (K.written output.old) line))
+        ⊎ Rose (F.file_count files.old) (F.file_count files.new))))
         ⊎ ((result ≡ 4) ⊎ (result ≡ 7)) }
 
-    // So is a script that has no tokens: with the refusal that is met first, and its place.
+    // So is a script that has no tokens or no tree, or in which something is unbound: with the mistake that is met first, and its place.
     ensures mistaken { AreTold (F.contents files.old) → (file : List ℕ) → (found : _)
         → IsMistakenScript (F.contents files.old) (map (λ w. w.now) words.now) file found
         → ((result ≡ 3) × ((K.written output.new ≡ grown (K.written output.old) (mistaken_line file found)) ⊎ Rose (F.file_count files.old) (F.file_count files.new)))

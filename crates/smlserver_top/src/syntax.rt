@@ -1,8 +1,8 @@
-// The tree of a script, or its first mistake.
+// The tree of a text, or its first mistake.
 ghost use Rattle.std.specs.Prelude.{◌≡◌, IfOk, IfErr};
 ghost use Rattle.sml_syntax.specs.Tokens.{HasTokens};
 ghost use Rattle.smlserver_top.specs.Reasons.{HasTree};
-ghost use Rattle.smlserver_top.specs.Page.{HasScriptCause};
+ghost use Rattle.smlserver_top.specs.Page.{HasTreeCause};
 
 use crate::refusal::{Mistake, Reason, ScriptRefusal};
 use sml_lex::{LexRefusal, lex};
@@ -10,19 +10,19 @@ use sml_parse::{ParseRefusal, parse};
 use sml_syntax::{Program, Token};
 use std::alloc::Global;
 
-// The refusal of a mistake at a place.
-fn mistaken(place: u64, mistake: Mistake) -> ScriptRefusal
+/// The refusal of a mistake at a place.
+pub(crate) fn mistaken(place: u64, mistake: Mistake) -> ScriptRefusal
     ensures { result ≡ ScriptRefusal.Refused (Reason.Mistaken place mistake) }
 {
     ScriptRefusal::Refused(Reason::Mistaken(place, mistake))
 }
 
-// The tokens of a script.
-fn script_tokens(alloc: Global, script: &[u8]) -> Result<Vec<Token>, ScriptRefusal>
-    ensures tokens { IfOk result (λ tokens. HasTokens script.now tokens.items) }
-    ensures refused { IfErr result (HasScriptCause script.now) }
+// The tokens of a text.
+fn tokens_of(alloc: Global, text: &[u8]) -> Result<Vec<Token>, ScriptRefusal>
+    ensures tokens { IfOk result (λ tokens. HasTokens text.now tokens.items) }
+    ensures refused { IfErr result (HasTreeCause text.now) }
 {
-    match lex(alloc, script) {
+    match lex(alloc, text) {
         Ok(tokens) => Ok(tokens),
         Err(LexRefusal::BadByte(place)) => Err(mistaken(place, Mistake::BadByte)),
         Err(LexRefusal::OpenComment(place)) => Err(mistaken(place, Mistake::OpenComment)),
@@ -36,12 +36,12 @@ fn script_tokens(alloc: Global, script: &[u8]) -> Result<Vec<Token>, ScriptRefus
     }
 }
 
-/// The tree of a script.
-pub(crate) fn script_tree(alloc: Global, script: &[u8]) -> Result<Program, ScriptRefusal>
-    ensures tree { IfOk result (HasTree script.now) }
-    ensures refused { IfErr result (HasScriptCause script.now) }
+/// The tree of a text.
+pub(crate) fn tree_of(alloc: Global, text: &[u8]) -> Result<Program, ScriptRefusal>
+    ensures tree { IfOk result (HasTree text.now) }
+    ensures refused { IfErr result (HasTreeCause text.now) }
 {
-    let tokens = script_tokens(alloc, script)?;
+    let tokens = tokens_of(alloc, text)?;
     match parse(alloc, &tokens) {
         Ok(program) => Ok(program),
         Err(ParseRefusal::Unexpected(place)) => Err(mistaken(place, Mistake::Unexpected)),
