@@ -1,9 +1,9 @@
+#![tactic(auto)]
 //! One connection: its messages are answered in order, until it ends.
 //!
 //! A connection is read piece by piece (`serve`), and the messages that are whole are answered before the next piece is
 //! read (`answers`). So what a client gets doesn't depend on how its bytes were cut, and no more is held than one message
 //! and one piece.
-#![tactic(auto)]
 
 mod answers;
 mod serve;

@@ -1,9 +1,9 @@
+#![tactic(auto)]
 //! Types of programs: a type for each expression and pattern, or the first item that has none.
 //!
 //! `infer` (`program`) looks for names without a binding, and then goes through the items with the names in scope and one table of types
 //! (`context`): patterns (`pattern`), expressions (`expression`), declarations of values (`declaration`, `bound`, `binding`), and those
 //! of types and exceptions (`type_declaration`, `written`, `equality`). It lists a class for each node on its way (`inference`).
-#![tactic(auto)]
 
 mod binding;
 mod bound;

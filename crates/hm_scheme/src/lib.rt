@@ -1,10 +1,10 @@
+#![tactic(auto)]
 //! Names in scope, what they stand for, and a table of types with the type names of the language.
 //!
 //! Names become numbers (`Names`), a scope says for each what it stands for (`Scope`), and that is a scheme with a status, or a
 //! type function (`meaning`). `Types` is a table of types in which the types of the basis, functions, tuples and the declared
 //! datatypes have names. The basis is told by tables (`basis`), in which types are spelt by steps. `widest` says how wide
 //! the tuples of a program are.
-#![tactic(auto)]
 
 mod basis;
 mod meaning;

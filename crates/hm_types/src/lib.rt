@@ -1,3 +1,4 @@
+#![tactic(auto)]
 //! Types as classes of a table: equations between them, and most general unifiers.
 //!
 //! A class is a variable, a type name over other classes, or the same as an older class (`node`). The solutions of a
@@ -5,7 +6,6 @@
 //! names that were declared before the class was made. `unify` joins two classes and what follows from that (`join`),
 //! hands what is asked of the joined classes on to their parts (`spread`), and looks for a type that would hold itself
 //! (`search`). Nothing here expands a type: each walk visits a class once.
-#![tactic(auto)]
 
 mod copy;
 mod join;

@@ -1,9 +1,9 @@
+#![tactic(auto)]
 //! The instructions of the machine that runs scripts, and how their steps go.
 //!
 //! `specs/State.antt` is what the machine holds, `specs/Step.antt` what each instruction does with
 //! it, `specs/Layout.antt` and `specs/Memory.antt` how texts and the other values lie in words, and
 //! `specs/Listing.antt` the lines that `list_code` gives.
-#![tactic(auto)]
 
 mod code;
 mod instr;

@@ -1,3 +1,4 @@
+#![tactic(auto)]
 //! What a program reads, writes and asks of the world around it: traits, and objects in memory that implement them.
 //!
 //! An object of the outside *tells* what it holds or has left where it can: each such ghost member is an `Option`.
@@ -5,7 +6,6 @@
 //! is then known from the clauses at `None`.
 //!
 //! Each object counts its faults. A call answers `Failed` only where its count rose, and no count falls.
-#![tactic(auto)]
 
 mod answerer;
 mod clock;

@@ -1,9 +1,9 @@
+#![tactic(auto)]
 //! The loader of projects, as far as the trees of their files.
 //!
 //! `load_trees` goes step by step, each for all files before the next: the project file and the files that it names are
 //! read in their order (`project`, `source`), then each is cut into tokens (`tokens`), then each is parsed (`trees`).
 //! The first mistake in this order is answered (`refusal`).
-#![tactic(auto)]
 
 mod load;
 mod project;

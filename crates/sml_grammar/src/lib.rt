@@ -1,3 +1,4 @@
+#![tactic(auto)]
 //! The grammar's machine: a stack of what is still to be read, which takes one token after the other and tells the
 //! acts that build the tree.
 //!
@@ -5,7 +6,6 @@
 //! - `symbol` and `act`: what the stack holds, and what the machine tells.
 //! - `expression`, `pattern`, `types`, `declaration`, `definition`, `function`: the machine's table, by phrases.
 //! - `machine`: the fold over the tokens, and `read`.
-#![tactic(auto)]
 
 mod act;
 mod declaration;
