@@ -15,14 +15,15 @@ const KEYS: [&[u8]; 12] = [
 ];
 
 #[derive(Drop)]
-struct Generator {
-    state: u64,
+pub(crate) struct Generator {
+    pub(crate) state: u64,
 }
 
 impl Generator {
     // The next number below a bound, by a linear congruential generator.
-    fn below(&mut self, bound: u64) -> u64
+    pub(crate) fn below(&mut self, bound: u64) -> u64
         requires { 0 < bound }
+        ensures { result < bound }
     {
         self.state = self
             .state
@@ -48,7 +49,7 @@ impl Generator {
         Text::from_bytes(alloc, bytes.as_slice())
     }
 
-    fn next(&mut self, alloc: Global) -> Result<DbCmd, NoMemory> {
+    pub(crate) fn next(&mut self, alloc: Global) -> Result<DbCmd, NoMemory> {
         match self.below(40) {
             0 | 1 => Ok(DbCmd::Create(self.table(alloc, 4)?)),
             2..=19 => {

@@ -11,6 +11,8 @@ mod calls;
 #[cfg(test)]
 mod copied;
 #[cfg(test)]
+mod core_steps;
+#[cfg(test)]
 mod data;
 #[cfg(test)]
 mod generated;
@@ -18,6 +20,8 @@ mod generated;
 mod keepers;
 #[cfg(test)]
 mod pickles;
+#[cfg(test)]
+mod plain_core;
 #[cfg(test)]
 mod plain_tables;
 #[cfg(test)]

@@ -12,7 +12,7 @@ use Rattle.db_text.specs.declared.forms.Form.{Form}
 use Rattle.db_text.specs.declared.forms.Form.TheVariants as form
 use Rattle.db_text.specs.declared.refusal.DbRefusal.{DbRefusal}
 use Rattle.db_text.specs.declared.refusal.DbRefusal.TheVariants as refusal
-use Rattle.db_text.specs.Reading.{Whole, Stops, run}
+use Rattle.sml_syntax.specs.StatementReading.{Whole, Stops, run}
 use Rattle.db_text.specs.Answers.{parts_left, form_left, command_of, HasTexts, GivesCommand, GivesPlace}
 use Rattle.db_text.proofs.Meaning.{Rel, SmallWords, Begun, whole-back, stop-back, stop-bound, append-nil, first-and, second-and}
 use Rattle.db_text.proofs.Scans.{below, not-below}

@@ -6,7 +6,8 @@ use Rattle.std.proofs.lemmas.Bool.Decides.{nat_tests}
 use Rattle.sml_syntax.specs.Spelling.{is_letter}
 use Rattle.sml_syntax.specs.Statements as statement
 use Rattle.sml_syntax.specs.Statements.{is_space, is_table_byte, is_table_name, small, doubled, AreParts}
-use Rattle.db_text.specs.Reading.{Left, Spaces, Gap, Word, Name, More, Quoted, Inside, Shut, state, Whole, run, is_quote}
+use Rattle.sml_syntax.specs.StatementReading.{Left, Spaces, Gap, Word, Name, More, Quoted, Inside, Shut, state, Whole, run}
+use Rattle.db_text.specs.Reading.{is_quote}
 use Rattle.db_text.specs.Answers.{parts_left}
 use Rattle.db_text.proofs.Scans.{run-step, run-same, past_any, if_so, if_not}
 use Rattle.db_text.proofs.Meaning.{both, first-and, second-and, append-nil, is-self, doubled-quote, doubled-other}

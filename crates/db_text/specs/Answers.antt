@@ -10,21 +10,14 @@ use Rattle.db_text.specs.declared.forms.Reading.{Reading}
 use Rattle.db_text.specs.declared.forms.Reading.TheVariants as reading
 use Rattle.db_text.specs.declared.refusal.DbRefusal.{DbRefusal}
 use Rattle.db_text.specs.declared.refusal.DbRefusal.TheVariants as refusal
-use Rattle.db_text.specs.Reading.{Left, Spaces, Gap, Word, Name, Quoted, Outcome, Whole, Stops}
+use Rattle.sml_syntax.specs.StatementReading.{Left, Reading as Outcome, Whole, Stops, part_left}
 
 -- this is what a run of the parts came to
 abbrev pub Gives : Outcome → Reading → Type 0
 Gives outcome (reading.Whole texts) = outcome ≡ Whole texts.items
 Gives outcome (reading.Stops place) = outcome ≡ Stops place
 
--- a part, with its text left out
-abbrev pub part_left : statement.Part → Left
-part_left statement.Spaces = Spaces
-part_left statement.Gap = Gap
-part_left (statement.Word w) = Word w
-part_left (statement.Name table) = Name
-part_left (statement.Quoted text) = Quoted
-
+-- the parts, with their texts left out
 abbrev pub parts_left : List statement.Part → List Left
 parts_left ps = map part_left ps
 

@@ -1,6 +1,7 @@
 // The five statements, each as its parts.
 ghost use Rattle.std.specs.Prelude.{◌≡◌, ◌<◌, [], ◌∷◌, ◌++◌, length, map, IfOk};
-ghost use Rattle.db_text.specs.Reading.{run, left_of};
+ghost use Rattle.sml_syntax.specs.StatementReading.{run};
+ghost use Rattle.db_text.specs.Reading.{left_of};
 ghost use Rattle.db_text.specs.Answers.{Gives, form_left, HasTexts, command_of};
 
 use crate::parts::{End, Part, read_part};

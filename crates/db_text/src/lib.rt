@@ -10,10 +10,12 @@ ghost use Rattle.sml_syntax.specs.Statements.{Statement, NoStatement};
 ghost use Rattle.db_text.specs.Answers.{GivesCommand, GivesPlace};
 
 mod forms;
+mod laws;
 mod parts;
 mod refusal;
 
 use forms::{FORMS, Reading, command, read_form};
+pub use laws::statements_are_told;
 pub use refusal::DbRefusal;
 use sml_syntax::DbCmd;
 use std::alloc::Global;

@@ -3,7 +3,8 @@ ghost use Rattle.std.specs.Prelude.{◌≡◌, ℕ, ◌≤◌, List, ◌∷◌, 
 ghost use Rattle.sml_syntax.specs.Spelling as spell;
 ghost use Rattle.sml_syntax.specs.Statements as statements;
 ghost use Rattle.db_text.specs.Reading as reading;
-ghost use Rattle.db_text.specs.Reading.{Left, Spaces, Gap, Word, Name, Quoted, run, left_of, ReadsPart};
+ghost use Rattle.sml_syntax.specs.StatementReading.{Left, Spaces, Gap, Word, Name, Quoted, run};
+ghost use Rattle.db_text.specs.Reading.{left_of, ReadsPart};
 
 use sml_syntax::{NoMemory, Text};
 use std::alloc::Global;

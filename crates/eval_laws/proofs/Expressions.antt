@@ -1,5 +1,5 @@
 -- Expressions and declarations, side by side.
-use Rattle.std.proofs.Common.{◌≡◌, ℕ, ◌+◌, ◌*◌, ◌≤◌, Bool, true, false, cond, List, [], ◌∷◌, ◌++◌, length, Option, Some, None, codes, refl, arith}
+use Rattle.std.proofs.Common.{ℕ, ◌+◌, true, false, List, [], ◌∷◌, ◌++◌, length, Option, Some, None, codes, refl, arith}
 use Rattle.std.specs.Str.{bytes_eq}
 use Rattle.sml_syntax.specs.declared.tree.Exp.{Exp}
 use Rattle.sml_syntax.specs.declared.tree.Dec.{Dec}
@@ -13,11 +13,10 @@ use Rattle.sml_syntax.specs.declared.value.Value.{Value}
 use Rattle.sml_syntax.specs.declared.value.Closure.{Closure, out-Closure}
 use Rattle.sml_syntax.specs.declared.value.Bound.{Bound}
 use Rattle.sml_syntax.specs.declared.value.Bound.TheOpen.{Value-F, Bound-F}
-use Rattle.sml_syntax.specs.Layers.{ExpLayer, DecLayer, ValueLayer, form_of_exp, form_of_dec, form_of_value}
-use Rattle.sml_syntax.specs.Values.{tuple_value, applied_value, ref_value, bool_value, text_size, Env}
-use Rattle.sml_syntax.specs.Outcome.{EvalState, Outcome, Done, Raised, BadStatement, Over, Waits, then_do, counted}
-use Rattle.sml_syntax.specs.Evaluation.{Evaluator, Level, Plan, plan_of, Pending, Shows, Hides, meaning, opened, bound_result, function_words, functions_words, functions_bound, names_of, held_by, each_value, last_value, piece_value, each_piece, list_result, chosen, rules_result, match_failed, group_bound, constructed, application, by_bool, handled, exp_result, bind_failed, bound_more, binding, with_binding, with_dec, datatypes_bound, exceptions_bound, Coming, Comes, Ends, coming, with_coming, scope_result}
-use Rattle.sml_syntax.specs.Primitives.{text_result}
+use Rattle.sml_syntax.specs.Layers.{ExpLayer, DecLayer, ValueLayer, form_of_dec, form_of_value}
+use Rattle.sml_syntax.specs.Values.{tuple_value, applied_value, ref_value, bool_value, Env}
+use Rattle.sml_syntax.specs.Outcome.{EvalState, Outcome, Done, Raised, then_do, counted}
+use Rattle.sml_syntax.specs.Evaluation.{Evaluator, Level, Plan, plan_of, Shows, meaning, opened, bound_result, functions_words, functions_bound, names_of, each_value, last_value, piece_value, each_piece, list_result, chosen, rules_result, match_failed, group_bound, constructed, application, by_bool, exp_result, bound_more, binding, with_binding, with_dec, datatypes_bound, exceptions_bound, Coming, Comes, Ends, coming, with_coming, scope_result}
 use Rattle.eval_laws.proofs.Relations.{R, Fine, fine, weaker, if_R, then_R, handled_R}
 use Rattle.eval_laws.proofs.Rows.{Compares, prim_R}
 use Rattle.eval_laws.proofs.Patterns.{Matches}

@@ -3,11 +3,10 @@ use Rattle.std.proofs.Common.{◌≡◌, ℕ, zero, suc, ◌+◌, ◌≤◌, Lis
 use Rattle.sml_syntax.specs.declared.tree.Exp.{Exp}
 use Rattle.sml_syntax.specs.declared.tree.Dec.{Dec}
 use Rattle.sml_syntax.specs.declared.tree.Pat.{Pat}
-use Rattle.sml_syntax.specs.declared.value.Value.{Value}
 use Rattle.sml_syntax.specs.Layers.{form_of_exp, form_of_pat, form_of_dec, form_of_value}
 use Rattle.sml_syntax.specs.Values.{Env}
 use Rattle.sml_syntax.specs.Outcome.{EvalState, Outcome, Done, Raised, BadStatement, Over, Waits, then_do, counted}
-use Rattle.sml_syntax.specs.Evaluation.{Evaluator, Level, Plan, plan_of, each_value, exp_result, pat_result, same_result, with_dec, with_binding, Coming, Comes, Ends, coming, with_coming, scope_result, over_scope, nothing, exp_above, above, level, eval, eval_decs}
+use Rattle.sml_syntax.specs.Evaluation.{Level, Plan, plan_of, each_value, exp_result, with_dec, Coming, Comes, Ends, coming, with_coming, over_scope, nothing, exp_above, above, level, eval, eval_decs}
 use Rattle.eval_laws.specs.Heights.{count_of, Betters}
 use Rattle.eval_laws.proofs.Relations.{R, weaker, then_R}
 use Rattle.eval_laws.proofs.Patterns.{pat_R, same_R}

@@ -3,3 +3,5 @@ pub mod Rows
 pub mod Patterns
 pub mod Expressions
 pub mod Levels
+pub mod UsedNames
+pub mod Square

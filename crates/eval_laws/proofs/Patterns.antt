@@ -1,16 +1,16 @@
 -- Patterns and comparisons, side by side.
-use Rattle.std.proofs.Common.{◌≡◌, ℕ, ◌+◌, ◌≤◌, Bool, true, false, cond, List, [], ◌∷◌, ◌++◌, Option, Some, None, refl, arith}
+use Rattle.std.proofs.Common.{ℕ, Bool, true, false, List, [], ◌∷◌, Option, Some, None, refl, arith}
 use Rattle.std.specs.Prelude.{slice_get, ◌==◌}
 use Rattle.std.specs.Str.{bytes_eq}
 use Rattle.sml_syntax.specs.declared.tree.Pat.{Pat}
 use Rattle.sml_syntax.specs.declared.tree.PatForm.TheOpen.{PatForm-F}
 use Rattle.sml_syntax.specs.declared.value.Value.{Value}
 use Rattle.sml_syntax.specs.declared.value.Closure.{Closure}
-use Rattle.sml_syntax.specs.declared.value.Bound.{Bound, roll-Bound}
+use Rattle.sml_syntax.specs.declared.value.Bound.{Bound}
 use Rattle.sml_syntax.specs.declared.value.Bound.TheOpen.{Value-F, Bound-F}
 use Rattle.sml_syntax.specs.Layers.{PatLayer, ValueLayer, form_of_value}
 use Rattle.sml_syntax.specs.Values.{text_size, Env}
-use Rattle.sml_syntax.specs.Outcome.{EvalState, Outcome, Done, Waits, then_do, counted}
+use Rattle.sml_syntax.specs.Outcome.{EvalState, Outcome, Done, Waits, counted}
 use Rattle.sml_syntax.specs.Evaluation.{Matcher, fits_if, name_result, joined, and_more, each_match, cell_match, list_match, argument_match, held_match, applied_match, constant_match, tuple_match, pat_result, same_int, opened, meaning, and_same, each_same, arguments_same, same_result}
 use Rattle.eval_laws.proofs.Relations.{R, Fine, fine, fine_less, if_R, then_R}
 use Rattle.eval_laws.proofs.Rows.{Compares}

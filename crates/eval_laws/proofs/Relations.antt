@@ -1,5 +1,5 @@
 -- Two evaluations side by side: neither counts less than is counted already, and the second one betters the first.
-use Rattle.std.proofs.Common.{◌≡◌, ℕ, ◌+◌, ◌≤◌, Bool, true, false, cond, Option, Some, None, refl, sym, subst, arith}
+use Rattle.std.proofs.Common.{ℕ, ◌+◌, ◌≤◌, Bool, true, false, cond, refl, sym, subst, arith}
 use Rattle.sml_syntax.specs.declared.value.Value.{Value}
 use Rattle.sml_syntax.specs.Outcome.{EvalState, Outcome, Done, Raised, BadStatement, Over, Waits, then_do}
 use Rattle.sml_syntax.specs.Evaluation.{handled}

@@ -1,5 +1,5 @@
 -- Primitives never run out of height, and count no less.
-use Rattle.std.proofs.Common.{◌≡◌, ℕ, ◌+◌, ◌≤◌, Bool, true, false, cond, ℤ, pos, negsuc, List, [], ◌∷◌, ◌++◌, length, Option, Some, None, codes, refl, arith}
+use Rattle.std.proofs.Common.{ℕ, Bool, true, false, cond, ℤ, pos, negsuc, List, [], ◌∷◌, ◌++◌, length, Option, Some, None, codes, refl, arith}
 use Rattle.std.specs.Prelude.{set, slice_get, nat_lt, int_lt, int_le, ◌+ℤ◌, ◌-ℤ◌, ◌*ℤ◌, neg_ℤ, not}
 use Rattle.std.specs.List.{concat}
 use Rattle.std.specs.Ordering.{nat_cmp}
@@ -8,7 +8,6 @@ use Rattle.std.specs.Option.{option_map_or}
 use Rattle.std.specs.Str.{bytes_eq}
 use Rattle.sml_syntax.specs.declared.value.Value.{Value}
 use Rattle.sml_syntax.specs.declared.value.Bound.TheOpen.{Value-F}
-use Rattle.sml_syntax.specs.declared.datum.Datum.TheVariants as datum
 use Rattle.sml_syntax.specs.declared.datum.Desc.{Desc}
 use Rattle.sml_syntax.specs.declared.datum.Desc.TheVariants as desc
 use Rattle.sml_syntax.specs.declared.cache.CacheId.{CacheId}
@@ -20,14 +19,14 @@ use Rattle.sml_syntax.specs.declared.database.WebCall.TheVariants as call
 use Rattle.sml_syntax.specs.declared.database.WebAns.{WebAns}
 use Rattle.sml_syntax.specs.declared.database.WebAns.TheVariants as answer
 use Rattle.sml_syntax.specs.Layers.{ValueLayer, form_of_value}
-use Rattle.sml_syntax.specs.Values.{int_value, char_value, text_value, unit_value, bool_value, none_value, some_value, list_value, exn_value, packet_value, cache_value, desc_value, partial_value, text_size}
-use Rattle.sml_syntax.specs.DataValues.{texts_of, pieces_of, datum_of, value_of, words_of}
-use Rattle.sml_syntax.specs.Outcome.{EvalState, Outcome, Done, Raised, BadStatement, Over, Waits, then_do, counted}
-use Rattle.sml_syntax.specs.BasisFunctions.{quotient, modulus, is_zero, byte_of, byte_at, part_at, number_front, is_listed, text_under, texts_under, is_content_type, is_status, is_cache_name, limit_of, failure_of, rows_of, bad_type, bad_status, bad_cache_name, bad_cache_kind, no_database}
+use Rattle.sml_syntax.specs.Values.{int_value, unit_value, some_value, desc_value}
+use Rattle.sml_syntax.specs.DataValues.{texts_of, pieces_of, datum_of}
+use Rattle.sml_syntax.specs.Outcome.{EvalState, Outcome, Done, Waits, counted}
+use Rattle.sml_syntax.specs.BasisFunctions.{quotient, modulus, is_zero, byte_of, byte_at, part_at, number_front, is_listed, text_under, texts_under, is_content_type, is_status, is_cache_name, limit_of, failure_of, rows_of, bad_type, bad_status, bad_cache_name, no_database}
 use Rattle.sml_syntax.specs.StatementReading.{Told, Command, Outside, statement_of}
 use Rattle.sml_syntax.specs.CallAnswers.{call_answer_fits, row_list}
-use Rattle.sml_syntax.specs.Primitives.{is_int, int_text, thrown, overflow, subscript, failure, int_result, text_result, bool_result, datum_result, optional_text, text_list_result, char_or, text_or_subscript, OfForm, by_form, of_int, of_char, of_text, of_ref, of_desc, of_cache, of_parts, of_three, of_four, of_pair, of_ints, of_texts, found, times, plus, minus, by_divisor, compared, concatenation, contents, assigned, to_char, sub, cut, order_value, int_to_string, optional_int, web_write, set_type, set_status, answered, asked, cache_answer_result, on_cache, limit_by, cache_with, cache_limited, cache_of_kind, cache_get, cache_lookup, cache_insert, unless_failed, dml_result, rows_result, on_database, database, Row, Constant, First, Second, Third, Same, primitives, row_of, Comparing, held, equality, row_result, prim_result}
-use Rattle.eval_laws.proofs.Relations.{R, Fine, fine, fine_less, fine_if, then_R}
+use Rattle.sml_syntax.specs.Primitives.{is_int, int_text, thrown, overflow, subscript, failure, int_result, text_result, bool_result, datum_result, optional_text, text_list_result, char_or, text_or_subscript, OfForm, by_form, of_int, of_char, of_text, of_ref, of_desc, of_cache, of_parts, of_three, of_four, of_pair, of_ints, of_texts, found, times, plus, minus, by_divisor, compared, concatenation, contents, assigned, to_char, sub, cut, order_value, int_to_string, optional_int, web_write, set_type, set_status, answered, asked, cache_answer_result, on_cache, limit_by, cache_with, cache_limited, cache_of_kind, cache_get, cache_lookup, cache_insert, unless_failed, dml_result, rows_result, on_database, database, Row, Constant, First, Second, Third, Same, primitives, row_of, Comparing, equality, row_result, prim_result}
+use Rattle.eval_laws.proofs.Relations.{R, Fine, fine, fine_if, then_R}
 
 abbrev V : Type 0
 V = Outcome Value

@@ -1,6 +1,6 @@
 -- What a greater height does to an evaluation.
 use Rattle.std.specs.Prelude.{◌≡◌, ℕ, ◌+◌, ◌≤◌}
-use Rattle.sml_syntax.specs.Outcome.{EvalState, Outcome, Done, Raised, BadStatement, Over, Waits}
+use Rattle.sml_syntax.specs.Outcome.{Outcome, Done, Raised, BadStatement, Over, Waits}
 
 -- the count in the state that an outcome leaves
 abbrev pub count_of : {A : Type 0} → Outcome A → ℕ

@@ -14,6 +14,8 @@ mod lex_table;
 #[cfg(test)]
 mod parse_table;
 #[cfg(test)]
+mod print_table;
+#[cfg(test)]
 mod scope_table;
 #[cfg(test)]
 mod type_table;

@@ -12,7 +12,7 @@ use tree_text::show_declarations;
 
 /// Scripts with what they parse to: the items, or the refusal with its place. The table stands in four parts, since the
 /// check of one would be too long.
-const ROWS: [(&str, &str); 48] = [
+pub(crate) const ROWS: [(&str, &str); 48] = [
     // constants, names and quotations
     ("", ""),
     ("val x = 12", "(val [x 12])"),
@@ -141,7 +141,7 @@ const ROWS: [(&str, &str); 48] = [
     ),
 ];
 
-const MORE_ROWS: [(&str, &str); 47] = [
+pub(crate) const MORE_ROWS: [(&str, &str); 47] = [
     ("val [] = a", "(val [(list) a])"),
     (
         "val [x, y : int] = a",
@@ -253,7 +253,7 @@ const MORE_ROWS: [(&str, &str); 47] = [
     ("exception E of 'a", "ConstraintVar 15"),
 ];
 
-const LATER_ROWS: [(&str, &str); 47] = [
+pub(crate) const LATER_ROWS: [(&str, &str); 47] = [
     ("fun f x : 'a = x", "ConstraintVar 10"),
     ("datatype 'a t = A of t", "NestedType 21"),
     ("datatype 'a t = A of int t", "NestedType 21"),
@@ -536,7 +536,7 @@ fn repeated(
 }
 
 // The items of a script as a text, or the refusal.
-fn shown(alloc: Global, script: &[u8], spans: bool) -> Result<String, Fail> {
+pub(crate) fn shown(alloc: Global, script: &[u8], spans: bool) -> Result<String, Fail> {
     match lex(alloc, script) {
         Ok(tokens) => shown_tokens(alloc, &tokens, spans),
         Err(_) => Ok(String::new(alloc)),

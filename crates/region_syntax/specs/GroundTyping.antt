@@ -191,6 +191,7 @@ are_functions (g.defs name rs ds) = is_function (function_type rs) rs && are_fun
 abbrev pub is_group : g.Defs → Bool
 is_group group = is_once (with_group group []) && are_functions group
 
+-- the bindings of a `val`: one or more
 unfoldable pub are_bindings : g.Rules → Bool
 are_bindings g.no_rules = true
 are_bindings (g.rules p e rs) = same_ground (pat_type p) (type_of e) && are_bindings rs

@@ -282,13 +282,13 @@ are_functions outer inner group (r.defs head body ds) =
 abbrev pub is_group : Context → r.Defs → Bool
 is_group c group = is_once (with_group group []) && are_functions c (with_group group c) group group
 
--- the bindings of a `val`
+-- the bindings of a `val`: one or more
 unfoldable pub are_bindings : r.Rules → Bool
 are_bindings r.no_rules = true
 are_bindings (r.rules p e rs) = same_type (pat_type p) (type_of e) && are_bindings rs
 
 abbrev pub is_val : r.Rules → Bool
-is_val bs = is_once (bound_by_rules bs) && are_bindings bs
+is_val bs = some_rules bs && is_once (bound_by_rules bs) && are_bindings bs
 
 -- the declarations of a `let`
 unfoldable pub are_decs : Context → r.Decs → Bool

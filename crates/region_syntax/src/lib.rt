@@ -7,6 +7,9 @@ mod region;
 mod specialised;
 mod types;
 
+pub use laws::{
+    copies_have_one_twin, empty_val_is_refused, none_fails_where_all_hold, work_and_depth_are_one,
+};
 pub use region::{FixDef, RBind, RDec, RExp, RExpForm, RPat, RPatForm, RPiece, RProgram, RRule};
 pub use specialised::{
     Constructor, MBind, MDec, MDef, MExp, MExpForm, MPat, MPatForm, MPiece, MProgram, MRule,

@@ -8,19 +8,26 @@ use Rattle.project_lines.specs.ProjectFile.{IsProject, IsFirstBadLine}
 use Rattle.project_lines.proofs.Exact as lines
 use Rattle.sml_syntax.specs.declared.tree.Program.{Program}
 use Rattle.sml_syntax.proofs.Lists.{cons_parts, same_cut}
-use Rattle.sml_lex.proofs.Unique.{one-partition, one-refusal, not-both}
-use Rattle.sml_parse.specs.Parsed.{parsed}
+use Rattle.sml_lex.proofs.Unique.{one-refusal, not-both}
+use Rattle.sml_parse.specs.Parses.{Parses, IsTree}
+use Rattle.sml_parse.proofs.Meaning.{one_answer}
 use Rattle.script_loader.specs.declared.refusal.LoadRefusal.{LoadRefusal}
 use Rattle.script_loader.specs.declared.source.Source.{Source}
+use Rattle.script_loader.specs.declared.placed.Placed.{Placed}
+use Rattle.sml_syntax.specs.Scope.{IsOneOf, IsFirstUnbound}
 use Rattle.script_loader.specs.declared.load.ProjectTrees.{ProjectTrees}
+use Rattle.script_loader.specs.declared.front.LoadedFront.{LoadedFront}
 use Rattle.script_loader.specs.Lists.{Each, none, one}
 use Rattle.script_loader.specs.Refusals.{IsTold, lexical, grammatical, fault_refusal}
 use Rattle.script_loader.specs.Sources.{name_of, bytes_of, IsRead, AreRead, IsUnread, absent, failed, long, IsFirstUnread}
 use Rattle.script_loader.specs.Project.{most_bytes, HoldsProject, HoldsFiles, IsBadFile, unread, bad_line, IsUnreadable, bad_file, unread_file}
 use Rattle.script_loader.specs.Trees.{IsTreeOf, AreTrees}
-use Rattle.script_loader.specs.Cause.{Step, Lexing, Parsing, number_of, IsMistake, IsFirstMistake, prelude_source, LoadCause, in_prelude, unreadable, mistaken, HasTrees, AreSure, GivesTrees, GivesCause}
-use Rattle.script_loader.proofs.Lists.{each_at}
-use Rattle.script_loader.proofs.Order.{read_well}
+use Rattle.script_loader.specs.Cause.{Step, Lexing, Parsing, number_of, IsMistake, IsFirstMistake, LoadCause, in_prelude, unreadable, mistaken, HasTrees, AreSure}
+use Rattle.script_loader.specs.Places.{placed, prelude_source}
+use Rattle.script_loader.specs.Scripts.{texts_before}
+use Rattle.script_loader.specs.Front.{IsTyped, IsFrontOf, HasFront, unbound_at, IsUnboundIn, TypeCause, unbound_name, ill_item, FrontCause, no_trees, untyped, GivesCause, GivesFront, GivesUnbound}
+use Rattle.script_loader.proofs.Lists.{each_at, one_behind}
+use Rattle.script_loader.proofs.Order.{one_tokens, read_well}
 
 -- an item that stands in a list at two cuts stands at the same place, or one of them in the front of the other
 pub data Places {A : Type 0} (a : List A) (x : A) (b c : List A) (y : A) (d : List A) : Type 0 where
@@ -57,22 +64,22 @@ each_same (x ∷ xs) (y ∷ ys) (z ∷ zs) f (one r e) (one s d) = ap (λ k. k �
 
 -- the first mistake
 
-one_mistake : (step : Step) (file : Source) (e f : LoadRefusal) → IsMistake step file e → IsMistake step file f → e ≡ f
+one_mistake : (step : Step) (file : Placed) (e f : LoadRefusal) → IsMistake step file e → IsMistake step file f → e ≡ f
 one_mistake Lexing file e f m n = m.told ∙ ap (lexical file.name) (one-refusal m.refused n.refused) ∙ sym n.told
 one_mistake Parsing file e f m n =
-    let tokens = one-partition m.has n.has in
-    let both = sym m.refused ∙ ap parsed tokens ∙ n.refused in
+    let tokens = one_tokens _ _ _ _ m.has n.has in
+    let both = one_answer m.tokens (Err m.refusal) (Err n.refusal) m.refused (subst (λ z. Parses z (Err n.refusal)) (sym tokens) n.refused) in
     let found : m.refusal ≡ n.refusal = cc in
-    m.told ∙ ap (grammatical file.name) found ∙ sym n.told
+    m.told ∙ ap (grammatical file.name file.start) found ∙ sym n.told
 
-same_step : (files : List Source) (e f : LoadRefusal) (p : IsFirstMistake files e) (q : IsFirstMistake files f) → p.step ≡ q.step → e ≡ f
+same_step : (files : List Placed) (e f : LoadRefusal) (p : IsFirstMistake files e) (q : IsFirstMistake files f) → p.step ≡ q.step → e ≡ f
 same_step files e f p q s = elim (places p.before p.here p.after q.before q.here q.after (sym p.split ∙ q.split)) [
   | same a x b ↦ one_mistake q.step q.here e f (subst (λ z. IsMistake q.step z e) x (subst (λ z. IsMistake z p.here e) s p.mistake)) q.mistake
   | first_before m h ↦ absurd (q.no_earlier_file p.before m p.here e h (subst (λ z. IsMistake z p.here e) s p.mistake))
   | second_before m h ↦ absurd (p.no_earlier_file q.before m q.here f h (subst (λ z. IsMistake z q.here f) (sym s) q.mistake))
 ]
 
-earlier_step : (files : List Source) (e f : LoadRefusal) (p : IsFirstMistake files e) (q : IsFirstMistake files f) → number_of p.step < number_of q.step → ⊥
+earlier_step : (files : List Placed) (e f : LoadRefusal) (p : IsFirstMistake files e) (q : IsFirstMistake files f) → number_of p.step < number_of q.step → ⊥
 earlier_step files e f p q l = q.no_earlier_step p.step p.before p.after p.here e l p.split p.mistake
 
 same_number : (s t : Step) → number_of s ≡ number_of t → s ≡ t
@@ -81,7 +88,7 @@ same_number Lexing Parsing e = absurd (omega (arith, e))
 same_number Parsing Lexing e = absurd (omega (arith, e))
 same_number Parsing Parsing e = refl
 
-pub one_first_mistake : (files : List Source) (e f : LoadRefusal) → IsFirstMistake files e → IsFirstMistake files f → e ≡ f
+pub one_first_mistake : (files : List Placed) (e f : LoadRefusal) → IsFirstMistake files e → IsFirstMistake files f → e ≡ f
 one_first_mistake files e f p q = elim (cases_lt (number_of p.step) (number_of q.step)) [
   | inl l ↦ absurd (earlier_step files e f p q l)
   | inr h ↦ elim (cases_lt (number_of q.step) (number_of p.step)) [
@@ -90,19 +97,19 @@ one_first_mistake files e f p q = elim (cases_lt (number_of p.step) (number_of q
   ]
 ]
 
-spelt_well : (source : Source) (tree : Program) (step : Step) (e : LoadRefusal) → IsTreeOf source tree → IsMistake step source e → ⊥
-spelt_well source tree Lexing e t m = not-both t.is.has m.refused
+spelt_well : (source : Placed) (tree : Program) (step : Step) (e : LoadRefusal) → IsTreeOf source tree → IsMistake step source e → ⊥
+spelt_well source tree Lexing e t m = not-both t.has.has m.refused
 spelt_well source tree Parsing e t m = read_well source tree e t m
 
-pub no_mistake : (files : List Source) (trees : List Program) (e : LoadRefusal) → AreTrees files trees → IsFirstMistake files e → ⊥
+pub no_mistake : (files : List Placed) (trees : List Program) (e : LoadRefusal) → AreTrees files trees → IsFirstMistake files e → ⊥
 no_mistake files trees e each p =
     let found = each_at p.before p.here p.after trees (subst (λ fs. AreTrees fs trees) p.split each) in
     spelt_well p.here found.0 p.step e found.1 p.mistake
 
-one_tree : (source : Source) (t u : Program) → IsTreeOf source t → IsTreeOf source u → t ≡ u
+one_tree : (source : Placed) (t u : Program) → IsTreeOf source t → IsTreeOf source u → t ≡ u
 one_tree source t u a b =
-    let tokens = one-partition a.is.has b.is.has in
-    let both = sym a.is.read ∙ ap parsed tokens ∙ b.is.read in
+    let tokens = one_tokens _ _ _ _ a.has b.has in
+    let both = one_answer a.tokens (Ok t) (Ok u) a.read (subst (λ z. IsTree z u) (sym tokens) b.read) in
     cc
 
 -- what files hold that tell it
@@ -201,6 +208,12 @@ module _ (text_at : List ℕ → Option (List ℕ)) (before after : ℕ) (whole 
       let found = one_project name p q a.left b.left a.holds b.holds in
       (found.0, one_reading q.files s t (subst (λ z. AreRead (Some text_at) z.files s) found.0 a.read) b.read)
 
+  -- and their starts
+  one_placing : (name : List ℕ) (p q : Project) (s t : List Source) → HoldsFiles (Some text_at) name p s → HoldsFiles (Some text_at) name q t → placed p.files s ≡ placed q.files t
+  one_placing name p q s t a b =
+      let found = one_files name p q s t a b in
+      ap (λ z. placed z.files s) found.0 ∙ ap (placed q.files) found.1
+
   readable : (name : List ℕ) (p : Project) (s : List Source) (e : LoadRefusal) → HoldsFiles (Some text_at) name p s → IsUnreadable (Some text_at) before after name e → ⊥
   readable name p s e h (bad_file b) = good_file name p h.left e h.holds b
   readable name p s e h (unread_file q k i v) =
@@ -222,33 +235,56 @@ module _ (text_at : List ℕ → Option (List ℕ)) (before after : ℕ) (whole 
   one_cause name e f (mistaken t i p s h m) (in_prelude n) = absurd (good_prelude t f i n)
   one_cause name e f (mistaken t i p s h m) (unreadable v j w) = absurd (readable name p s f h w)
   one_cause name e f (mistaken t i p s h m) (mistaken v j q r k n) =
-      let found = one_files name p q s r h k in
-      one_first_mistake r e f (subst (λ z. IsFirstMistake z e) found.1 m) n
+      one_first_mistake (placed q.files r) e f (subst (λ z. IsFirstMistake z e) (one_placing name p q s r h k) m) n
 
   no_cause : (name : List ℕ) (trees : ProjectTrees) (e : LoadRefusal) → HasTrees (Some text_at) name trees → LoadCause (Some text_at) before after name e → ⊥
   no_cause name trees e h (in_prelude m) = good_prelude trees.prelude e h.of_prelude m
   no_cause name trees e h (unreadable t i u) = readable name trees.project h.sources e h.held u
   no_cause name trees e h (mistaken t i p s k m) =
-      let found = one_files name p trees.project s h.sources k h.held in
-      no_mistake h.sources trees.trees e h.of_files (subst (λ z. IsFirstMistake z e) found.1 m)
+      no_mistake trees.files trees.trees e h.of_files (subst (λ z. IsFirstMistake z e) (one_placing name p trees.project s h.sources k h.held ∙ sym h.files_are) m)
 
   one_load : (name : List ℕ) (a b : ProjectTrees) → HasTrees (Some text_at) name a → HasTrees (Some text_at) name b → a ≡ b
   one_load name a b h k =
       let found = one_files name a.project b.project h.sources k.sources h.held k.held in
       let prelude = one_tree prelude_source a.prelude b.prelude h.of_prelude k.of_prelude in
-      let trees = each_same k.sources a.trees b.trees one_tree (subst (λ z. AreTrees z a.trees) found.1 h.of_files) k.of_files in
-      ap (λ z. record { project = z; prelude = a.prelude; trees = a.trees }) found.0
-      ∙ ap (λ z. record { project = b.project; prelude = z; trees = a.trees }) prelude
-      ∙ ap (λ z. record { project = b.project; prelude = b.prelude; trees = z }) trees
+      let files : a.files ≡ b.files = h.files_are ∙ one_placing name a.project b.project h.sources k.sources h.held k.held ∙ sym k.files_are in
+      let trees = each_same b.files a.trees b.trees one_tree (subst (λ z. AreTrees z a.trees) files h.of_files) k.of_files in
+      ap (λ z. record { project = z; prelude = a.prelude; files = a.files; trees = a.trees }) found.0
+      ∙ ap (λ z. record { project = b.project; prelude = z; files = a.files; trees = a.trees }) prelude
+      ∙ ap (λ z. record { project = b.project; prelude = b.prelude; files = z; trees = a.trees }) files
+      ∙ ap (λ z. record { project = b.project; prelude = b.prelude; files = b.files; trees = z }) trees
 
 -- what a load answers
 
-pub gives_trees : (contents : Contents) (before after : ℕ) (name : List ℕ) (result : Result ProjectTrees LoadRefusal) (trees : ProjectTrees) → IfOk result (HasTrees contents name) → IfErr result (IsTold (LoadCause contents before after name)) → AreSure contents before after → HasTrees contents name trees → GivesTrees result trees
-gives_trees contents before after name (Ok t) trees ok err sure h = inl (ap Ok (one_load sure.text_at before after sure.whole name t trees (subst (λ c. HasTrees c name t) sure.told ok) (subst (λ c. HasTrees c name trees) sure.told h)))
-gives_trees contents before after name (Err e) trees ok (inl c) sure h = absurd (no_cause sure.text_at before after sure.whole name trees e (subst (λ c. HasTrees c name trees) sure.told h) (subst (λ k. LoadCause k before after name e) sure.told c))
-gives_trees contents before after name (Err e) trees ok (inr m) sure h = inr (ap Err m)
+-- the script that lacks a binding first, and the first place of one
+one_unbound : (trees : ProjectTrees) (e f : LoadRefusal) → IsUnboundIn trees e → IsUnboundIn trees f → e ≡ f
+one_unbound trees e f p q = elim (places p.front p.here p.back q.front q.here q.back (sym p.split ∙ q.split)) [
+  | same a x b ↦ (
+      let first = subst (λ s. IsFirstUnbound s.program p.place) x p.first in
+      let less = first.least q.place q.first.is_unbound in
+      let more = q.first.least p.place first.is_unbound in
+      let place : p.place ≡ q.place = omega (arith, less, more) in
+      p.told ∙ ap (λ s. unbound_at (texts_before trees) s p.place) x ∙ ap (unbound_at (texts_before trees) q.here) place ∙ sym q.told)
+  | first_before m h ↦ absurd (q.bound p.here (subst (IsOneOf p.here) (sym h) (one_behind p.front p.here m)) p.place p.first.is_unbound)
+  | second_before m h ↦ absurd (p.bound q.here (subst (IsOneOf q.here) (sym h) (one_behind q.front q.here m)) q.place q.first.is_unbound)
+]
 
-pub gives_cause : (contents : Contents) (before after : ℕ) (name : List ℕ) (result : Result ProjectTrees LoadRefusal) (f : LoadRefusal) → IfOk result (HasTrees contents name) → IfErr result (IsTold (LoadCause contents before after name)) → AreSure contents before after → LoadCause contents before after name f → GivesCause result f
-gives_cause contents before after name (Ok t) f ok err sure c = absurd (no_cause sure.text_at before after sure.whole name t f (subst (λ k. HasTrees k name t) sure.told ok) (subst (λ k. LoadCause k before after name f) sure.told c))
-gives_cause contents before after name (Err e) f ok (inl d) sure c = inl (ap Err (one_cause sure.text_at before after sure.whole name e f (subst (λ k. LoadCause k before after name e) sure.told d) (subst (λ k. LoadCause k before after name f) sure.told c)))
+pub gives_cause : (contents : Contents) (before after : ℕ) (name : List ℕ) (result : Result LoadedFront LoadRefusal) (f : LoadRefusal) → IfOk result (HasFront contents name) → IfErr result (IsTold (FrontCause contents before after name)) → AreSure contents before after → LoadCause contents before after name f → GivesCause result f
+gives_cause contents before after name (Ok t) f ok err sure c = absurd (no_cause sure.text_at before after sure.whole name ok.trees f (subst (λ k. HasTrees k name ok.trees) sure.told ok.has) (subst (λ k. LoadCause k before after name f) sure.told c))
+gives_cause contents before after name (Err e) f ok (inl (no_trees d)) sure c = inl (ap Err (one_cause sure.text_at before after sure.whole name e f (subst (λ k. LoadCause k before after name e) sure.told d) (subst (λ k. LoadCause k before after name f) sure.told c)))
+gives_cause contents before after name (Err e) f ok (inl (untyped trees h d)) sure c = absurd (no_cause sure.text_at before after sure.whole name trees f (subst (λ k. HasTrees k name trees) sure.told h) (subst (λ k. LoadCause k before after name f) sure.told c))
 gives_cause contents before after name (Err e) f ok (inr m) sure c = inr (ap Err m)
+
+pub gives_front : (contents : Contents) (before after : ℕ) (name : List ℕ) (result : Result LoadedFront LoadRefusal) (trees : ProjectTrees) → IfOk result (HasFront contents name) → IfErr result (IsTold (FrontCause contents before after name)) → AreSure contents before after → HasTrees contents name trees → GivesFront result trees
+gives_front contents before after name (Ok front) trees ok err sure h = subst (λ t. IsFrontOf t front) (one_load sure.text_at before after sure.whole name ok.trees trees (subst (λ c. HasTrees c name ok.trees) sure.told ok.has) (subst (λ c. HasTrees c name trees) sure.told h)) ok.is
+gives_front contents before after name (Err e) trees ok (inl (no_trees d)) sure h = absurd (no_cause sure.text_at before after sure.whole name trees e (subst (λ c. HasTrees c name trees) sure.told h) (subst (λ k. LoadCause k before after name e) sure.told d))
+gives_front contents before after name (Err e) trees ok (inl (untyped found k d)) sure h = inl (subst (λ t. TypeCause t e) (one_load sure.text_at before after sure.whole name found trees (subst (λ c. HasTrees c name found) sure.told k) (subst (λ c. HasTrees c name trees) sure.told h)) d)
+gives_front contents before after name (Err e) trees ok (inr m) sure h = inr m
+
+pub gives_unbound : (result : Result LoadedFront LoadRefusal) (trees : ProjectTrees) (e : LoadRefusal) → GivesFront result trees → IsUnboundIn trees e → GivesUnbound result trees e
+gives_unbound (Ok front) trees e g u =
+    let found = each_at u.front u.here u.back front.scripts (subst (λ ss. Each IsTyped ss front.scripts) u.split g.scripts) in
+    found.1.bound u.place u.first.is_unbound
+gives_unbound (Err f) trees e (inl (unbound_name v)) u = inl (one_unbound trees f e v u)
+gives_unbound (Err f) trees e (inl (ill_item i)) u = inr (inl i)
+gives_unbound (Err f) trees e (inr m) u = inr (inr m)

@@ -1,5 +1,6 @@
 -- Two lists side by side.
-use Rattle.std.proofs.Common.{◌≡◌, ℕ, suc, ◌+◌, ◌<◌, List, [], ◌∷◌, ◌++◌, length, get_or, drop, drop-cons, append_assoc, append-nil, subst, refl, ap, sym, ◌∙◌, arith}
+use Rattle.std.proofs.Common.{◌≡◌, ℕ, suc, ◌+◌, ◌<◌, List, [], ◌∷◌, ◌++◌, length, get_or, drop, drop-cons, append_assoc, append-nil, subst, refl, ap, sym, ◌∙◌, inl, inr, ◌⊎◌, arith}
+use Rattle.sml_syntax.specs.Scope.{IsOneOf, first_one, other_one}
 use Rattle.script_loader.specs.Lists.{Each, none, one, SoFar, Stops}
 
 -- one more at the ends
@@ -73,3 +74,25 @@ each_then T [] (y ∷ ys) zs f e d = elim e [ ]
 each_then T (x ∷ xs) [] zs f e d = elim e [ ]
 each_then T (x ∷ xs) (y ∷ ys) [] f e d = elim d [ ]
 each_then T (x ∷ xs) (y ∷ ys) (z ∷ zs) f (one r e) (one s d) = one (f x y z r s) (each_then T xs ys zs f e d)
+
+-- an item between others is one of the whole
+pub one_behind : {A : Type 0} (front : List A) (x : A) (back : List A) → IsOneOf x (front ++ x ∷ back)
+one_behind [] x back = first_one
+one_behind (y ∷ front) x back = other_one (one_behind front x back)
+
+-- what goes with one of the first list
+pub each_one : {A B : Type 0} {R : A → B → Type 0} (x : A) (xs : List A) (ys : List B) → Each R xs ys → IsOneOf x xs → (y : B) × R x y
+each_one x [] ys e i = elim i [ ]
+each_one x (z ∷ xs) [] e i = elim e [ ]
+each_one x (_ ∷ xs) (y ∷ ys) (one r e) first_one = (y, r)
+each_one x (_ ∷ xs) (y ∷ ys) (one r e) (other_one i) = each_one x xs ys e i
+
+-- one of a list with an item behind it
+pub one_of_more : {A : Type 0} (x : A) (xs : List A) (y : A) → IsOneOf x (xs ++ y ∷ []) → IsOneOf x xs ⊎ (x ≡ y)
+one_of_more x [] _ first_one = inr refl
+one_of_more x [] y (other_one i) = elim i [ ]
+one_of_more x (_ ∷ xs) y first_one = inl first_one
+one_of_more x (z ∷ xs) y (other_one i) = elim (one_of_more x xs y i) [
+  | inl j ↦ inl (other_one j)
+  | inr e ↦ inr e
+]

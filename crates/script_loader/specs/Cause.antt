@@ -1,14 +1,14 @@
--- Why a project isn't loaded: the order of refusals over all its files, and the trees of a project that is loaded.
-use Rattle.std.specs.Prelude.{◌≡◌, ◌⊎◌, ℕ, ◌<◌, List, [], ◌∷◌, ◌++◌, Option, Some, Result, Ok, Err}
+-- Why a project has no trees: the order of refusals over all its files, and the trees of a project that has them.
+use Rattle.std.specs.Prelude.{◌≡◌, ℕ, ◌<◌, List, [], ◌∷◌, ◌++◌, Option, Some}
 use Rattle.outside_world.specs.Told.{Contents, Rose}
 use Rattle.sml_syntax.specs.declared.tree.Program.{Program}
 use Rattle.project_lines.specs.declared.project.Project.{Project}
-use Rattle.sml_syntax.specs.PreludeText.{prelude_text}
 use Rattle.script_loader.specs.declared.refusal.LoadRefusal.{LoadRefusal}
-use Rattle.script_loader.specs.declared.refusal.LoadRefusal.TheVariants as refusal
 use Rattle.script_loader.specs.declared.source.Source.{Source}
+use Rattle.script_loader.specs.declared.placed.Placed.{Placed}
 use Rattle.script_loader.specs.declared.load.ProjectTrees.{ProjectTrees}
 use Rattle.script_loader.specs.Project.{HoldsFiles, IsUnreadable}
+use Rattle.script_loader.specs.Places.{placed, prelude_source}
 use Rattle.script_loader.specs.Tokens.{IsMisspelt}
 use Rattle.script_loader.specs.Trees.{IsTreeOf, AreTrees, IsUngrammatical}
 
@@ -22,51 +22,40 @@ number_of Lexing = 0
 number_of Parsing = 1
 
 -- what a step finds wrong with a file, whatever stands in others
-abbrev pub IsMistake : Step → Source → LoadRefusal → Type 0
+abbrev pub IsMistake : Step → Placed → LoadRefusal → Type 0
 IsMistake Lexing source e = IsMisspelt source e
 IsMistake Parsing source e = IsUngrammatical source e
 
 -- the first mistake in files: no file has one of an earlier step, and none of those before it has one of its step
-pub record IsFirstMistake (files : List Source) (e : LoadRefusal) : Type 0 where
+pub record IsFirstMistake (files : List Placed) (e : LoadRefusal) : Type 0 where
   pub step : Step
-  pub before : List Source
-  pub here : Source
-  pub after : List Source
+  pub before : List Placed
+  pub here : Placed
+  pub after : List Placed
   pub split : files ≡ before ++ here ∷ after
   pub mistake : IsMistake step here e
-  pub no_earlier_step : (earlier : Step) (front back : List Source) (other : Source) (f : LoadRefusal) → number_of earlier < number_of step → files ≡ front ++ other ∷ back → IsMistake earlier other f → ⊥
-  pub no_earlier_file : (front back : List Source) (other : Source) (f : LoadRefusal) → before ≡ front ++ other ∷ back → IsMistake step other f → ⊥
+  pub no_earlier_step : (earlier : Step) (front back : List Placed) (other : Placed) (f : LoadRefusal) → number_of earlier < number_of step → files ≡ front ++ other ∷ back → IsMistake earlier other f → ⊥
+  pub no_earlier_file : (front back : List Placed) (other : Placed) (f : LoadRefusal) → before ≡ front ++ other ∷ back → IsMistake step other f → ⊥
 
--- the prelude as a file, which has no name
-unfoldable pub prelude_source : Source
-prelude_source = record { name = []; text = prelude_text }
-
--- why a project isn't loaded. The counts are those of failed reads, before the call and after it.
+-- why a project has no trees. The counts are those of failed reads, before the call and after it.
 pub data LoadCause (contents : Contents) (before after : ℕ) (project : List ℕ) (e : LoadRefusal) : Type 0 where
   -- a mistake in the prelude. The tests show that it has none.
   in_prelude : IsFirstMistake (prelude_source ∷ []) e → LoadCause contents before after project e
   -- the prelude has a tree, and the project file or a file that it names isn't read, or has a bad line
   unreadable : (prelude : Program) → IsTreeOf prelude_source prelude → IsUnreadable contents before after project e → LoadCause contents before after project e
   -- the prelude has a tree, all files are read, and this is the first mistake in their texts
-  mistaken : (prelude : Program) → IsTreeOf prelude_source prelude → (lines : Project) (sources : List Source) → HoldsFiles contents project lines sources → IsFirstMistake sources e → LoadCause contents before after project e
+  mistaken : (prelude : Program) → IsTreeOf prelude_source prelude → (lines : Project) (sources : List Source) → HoldsFiles contents project lines sources → IsFirstMistake (placed lines.files sources) e → LoadCause contents before after project e
 
--- the trees of the files of this project, and that of the prelude
+-- the texts of the files of this project with their starts, their trees, and that of the prelude
 pub record HasTrees (contents : Contents) (project : List ℕ) (trees : ProjectTrees) : Type 0 where
   pub sources : List Source
   pub held : HoldsFiles contents project trees.project sources
+  pub files_are : trees.files ≡ placed trees.project.files sources
   pub of_prelude : IsTreeOf prelude_source trees.prelude
-  pub of_files : AreTrees sources trees.trees
+  pub of_files : AreTrees trees.files trees.trees
 
 -- files that tell what they hold, of which no read failed
 pub record AreSure (contents : Contents) (before after : ℕ) : Type 0 where
   pub text_at : List ℕ → Option (List ℕ)
   pub told : contents ≡ Some text_at
   pub whole : Rose before after → ⊥
-
--- these trees, or want of memory
-abbrev pub GivesTrees : Result ProjectTrees LoadRefusal → ProjectTrees → Type 0
-GivesTrees result trees = (result ≡ Ok trees) ⊎ (result ≡ Err refusal.NoMemory)
-
--- this refusal, or want of memory
-abbrev pub GivesCause : Result ProjectTrees LoadRefusal → LoadRefusal → Type 0
-GivesCause result e = (result ≡ Err e) ⊎ (result ≡ Err refusal.NoMemory)

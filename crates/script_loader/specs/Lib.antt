@@ -3,7 +3,13 @@ pub mod Refusals
 pub mod Sources
 pub mod Reading
 pub mod Project
+pub mod Places
+pub mod Placing
 pub mod Tokens
 pub mod Trees
 pub mod Cause
 pub mod Scripts
+pub mod Behind
+pub mod Front
+pub mod Untyped
+pub mod Seen

@@ -1,5 +1,5 @@
 -- The refusals of the steps as those of a load: the file that each names, and its place.
-use Rattle.std.specs.Prelude.{◌≡◌, ◌⊎◌, ℕ, List, Option, Some, None}
+use Rattle.std.specs.Prelude.{◌≡◌, ◌⊎◌, ℕ, ◌-◌, List, Option, Some, None}
 use Rattle.sml_syntax.specs.Spelling as spell
 use Rattle.sml_syntax.specs.Spelling.{Refusal}
 use Rattle.sml_parse.specs.declared.parser.ParseRefusal.{ParseRefusal}
@@ -41,9 +41,9 @@ abbrev pub lexical_answer : List ℕ → Option Refusal → LoadRefusal
 lexical_answer file (Some r) = lexical file r
 lexical_answer file None = refusal.NoMemory
 
--- the parser's refusal of a file
-abbrev pub grammatical : List ℕ → ParseRefusal → LoadRefusal
-grammatical file (parse.Unexpected n) = refusal.Unexpected file n
-grammatical file (parse.Unsupported n lack) = refusal.Unsupported file n lack
-grammatical file (parse.TooDeep n) = refusal.TooDeep file n
-grammatical file parse.NoMemory = refusal.NoMemory
+-- the parser's refusal of a file whose text starts here in the whole, with its place in the file
+abbrev pub grammatical : List ℕ → ℕ → ParseRefusal → LoadRefusal
+grammatical file start (parse.Unexpected n) = refusal.Unexpected file (n - start)
+grammatical file start (parse.Unsupported n lack) = refusal.Unsupported file (n - start) lack
+grammatical file start (parse.TooDeep n) = refusal.TooDeep file (n - start)
+grammatical file start parse.NoMemory = refusal.NoMemory

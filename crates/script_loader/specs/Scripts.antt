@@ -1,33 +1,35 @@
 -- The programs of a project's scripts: the prelude, the libraries in their order, and the script, as one list of
--- declarations. Each place is that of the file that holds it.
-use Rattle.std.specs.Prelude.{List, [], ◌∷◌, ◌++◌}
+-- declarations.
+use Rattle.std.specs.Prelude.{ℕ, ◌+◌, List, [], ◌∷◌, length}
 use Rattle.project_lines.specs.declared.project.ProjectFile.{ProjectFile}
 use Rattle.project_lines.specs.declared.project.ProjectFile.TheVariants as file
-use Rattle.sml_syntax.specs.declared.tree.Dec.{Dec}
 use Rattle.sml_syntax.specs.declared.tree.Program.{Program}
-use Rattle.sml_syntax.specs.Page.{page_decs}
+use Rattle.sml_syntax.specs.Page.{all_decs, page_decs}
 use Rattle.script_loader.specs.declared.load.ProjectTrees.{ProjectTrees}
+use Rattle.script_loader.specs.declared.placed.Placed.{Placed}
 use Rattle.script_loader.specs.declared.scripts.ScriptProgram.{ScriptProgram}
+use Rattle.script_loader.specs.Places.{of_libraries, prelude_source}
 
--- the trees of the libraries
-abbrev pub libraries_of : List ProjectFile → List Program → List Program
-libraries_of (file.Library name ∷ files) (tree ∷ trees) = tree ∷ libraries_of files trees
-libraries_of (file.Script path name ∷ files) (tree ∷ trees) = libraries_of files trees
-libraries_of _ _ = []
-
--- the scripts, each with its declarations behind these
-abbrev pub scripts_behind : List Dec → List ProjectFile → List Program → List ScriptProgram
-scripts_behind decs (file.Library name ∷ files) (tree ∷ trees) = scripts_behind decs files trees
-scripts_behind decs (file.Script path name ∷ files) (tree ∷ trees) =
-    record { path = path; file = name; program = record { items = decs ++ tree.items } } ∷ scripts_behind decs files trees
-scripts_behind decs _ _ = []
+-- a script's program, and how many of its declarations are the prelude's, and are of all that stands before the script's own
+abbrev pub script_program : Program → List Program → List ℕ → List ℕ → Program → ScriptProgram
+script_program prelude libraries path name tree = record {
+  path = path;
+  file = name;
+  program = record { items = page_decs prelude libraries tree };
+  prelude = length prelude.items;
+  before = length prelude.items + length (all_decs libraries);
+}
 
 -- the scripts of a project, each with the declarations of its page
 abbrev pub scripts_among : Program → List Program → List ProjectFile → List Program → List ScriptProgram
 scripts_among prelude libraries (file.Library name ∷ files) (tree ∷ trees) = scripts_among prelude libraries files trees
 scripts_among prelude libraries (file.Script path name ∷ files) (tree ∷ trees) =
-    record { path = path; file = name; program = record { items = page_decs prelude libraries tree } } ∷ scripts_among prelude libraries files trees
+    script_program prelude libraries path name tree ∷ scripts_among prelude libraries files trees
 scripts_among prelude libraries _ _ = []
 
 abbrev pub scripts_of : ProjectTrees → List ScriptProgram
-scripts_of it = scripts_among it.prelude (libraries_of it.project.files it.trees) it.project.files it.trees
+scripts_of it = scripts_among it.prelude (of_libraries it.project.files it.trees) it.project.files it.trees
+
+-- the texts that each script's own stands behind
+abbrev pub texts_before : ProjectTrees → List Placed
+texts_before it = prelude_source ∷ of_libraries it.project.files it.files

@@ -34,9 +34,9 @@ pub enum LoadRefusal {
     Unexpected { file: Text, place: u64 },
     /// An item that is higher than 200.
     TooDeep { file: Text, place: u64 },
-    /// A name, a type name or a type variable that nothing binds. No step answers it yet.
+    /// A name, a type name or a type variable that nothing binds.
     Unbound { file: Text, place: u64 },
-    /// An item that has no typing. No step answers it yet.
+    /// An item that has no typing.
     Ill { file: Text, place: u64 },
     /// A script that needs too many instances, or too large types. No step answers it yet.
     InstanceLimit { file: Text, place: u64 },
@@ -129,23 +129,38 @@ fn named_lexical(file: Text, refusal: LexRefusal) -> LoadRefusal
     }
 }
 
-/// The parser's refusal of a file.
-pub(crate) fn grammatical_refusal(alloc: Global, name: &Text, refusal: ParseRefusal) -> LoadRefusal
-    ensures { Tells result (grammatical name.now refusal) }
+/// The parser's refusal of a file whose text starts at `start` in the whole.
+pub(crate) fn grammatical_refusal(
+    alloc: Global,
+    name: &Text,
+    start: u64,
+    refusal: ParseRefusal,
+) -> LoadRefusal
+    ensures { Tells result (grammatical name.now start refusal) }
 {
     match name.try_copy(alloc) {
-        Ok(file) => named_grammatical(file, refusal),
+        Ok(file) => named_grammatical(file, start, refusal),
         Err(_) => LoadRefusal::NoMemory,
     }
 }
 
-fn named_grammatical(file: Text, refusal: ParseRefusal) -> LoadRefusal
-    ensures { result ≡ grammatical file refusal }
+fn named_grammatical(file: Text, start: u64, refusal: ParseRefusal) -> LoadRefusal
+    ensures { result ≡ grammatical file start refusal }
 {
     match refusal {
-        ParseRefusal::Unexpected(place) => LoadRefusal::Unexpected { file, place },
-        ParseRefusal::Unsupported(place, lack) => LoadRefusal::Unsupported { file, place, lack },
-        ParseRefusal::TooDeep(place) => LoadRefusal::TooDeep { file, place },
+        ParseRefusal::Unexpected(n) => LoadRefusal::Unexpected {
+            file,
+            place: n.saturating_sub(start),
+        },
+        ParseRefusal::Unsupported(n, lack) => LoadRefusal::Unsupported {
+            file,
+            place: n.saturating_sub(start),
+            lack,
+        },
+        ParseRefusal::TooDeep(n) => LoadRefusal::TooDeep {
+            file,
+            place: n.saturating_sub(start),
+        },
         ParseRefusal::NoMemory => LoadRefusal::NoMemory,
     }
 }

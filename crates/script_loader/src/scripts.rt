@@ -1,7 +1,9 @@
 // The programs of a project's scripts.
-ghost use Rattle.std.specs.Prelude.{◌≡◌, ◌++◌, [], ◌∷◌, IfOk, OnOk};
+ghost use Rattle.std.specs.Prelude.{◌≡◌, ◌++◌, [], ◌∷◌, length, IfOk, OnOk};
 ghost use Rattle.sml_syntax.specs.Page.{all_decs};
-ghost use Rattle.script_loader.specs.Scripts.{libraries_of, scripts_behind, scripts_of};
+ghost use Rattle.script_loader.specs.Places.{of_libraries};
+ghost use Rattle.script_loader.specs.Scripts.{scripts_of};
+ghost use Rattle.script_loader.specs.Behind.{script_behind, scripts_behind};
 
 use crate::load::ProjectTrees;
 use project_lines::ProjectFile;
@@ -9,14 +11,25 @@ use sml_syntax::{Dec, Listed, NoMemory, Program, Text};
 use std::alloc::Global;
 
 /// A script with all that it stands on.
-#[derive(PartialEq, Eq, Drop)]
-pub struct ScriptProgram {
+#[derive(Drop)]
+pub(crate) struct ScriptProgram {
     /// The path of requests.
     pub path: Text,
     /// The name of the script's file.
     pub file: Text,
     /// The declarations of the prelude, of the libraries in their order, and of the script.
     pub program: Program,
+    /// How many of them are the prelude's.
+    pub prelude: u64,
+    /// How many of them stand before the script's own.
+    pub before: u64,
+}
+
+// What each script stands on: the declarations of the prelude and the libraries, and how many of them are the prelude's.
+#[derive(Drop)]
+struct Base {
+    decs: Program,
+    prelude: u64,
 }
 
 // Adds the declarations of a tree.
@@ -36,7 +49,7 @@ fn add_library(
     file: &ProjectFile,
     tree: &Program,
 ) -> Result<(), NoMemory>
-    ensures { OnOk result (decs.new.items ≡ decs.old.items ++ all_decs (libraries_of (file.now ∷ []) (tree.now ∷ []))) }
+    ensures { OnOk result (decs.new.items ≡ decs.old.items ++ all_decs (of_libraries (file.now ∷ []) (tree.now ∷ []))) }
 {
     match file {
         ProjectFile::Library(_) => add_items(alloc, decs, tree),
@@ -51,7 +64,7 @@ fn add_libraries(
     files: &[ProjectFile],
     trees: &[Program],
 ) -> Result<(), NoMemory>
-    ensures { OnOk result (decs.new.items ≡ decs.old.items ++ all_decs (libraries_of files.now trees.now)) }
+    ensures { OnOk result (decs.new.items ≡ decs.old.items ++ all_decs (of_libraries files.now trees.now)) }
 {
     for i in 0..files.len().min(trees.len()) {
         add_library(alloc, decs, &files[i], &trees[i])?;
@@ -62,17 +75,15 @@ fn add_libraries(
 // A script whose declarations stand behind others.
 fn script_behind(
     alloc: Global,
-    decs: &Program,
+    base: &Base,
     path: &Text,
     file: &Text,
     tree: &Program,
 ) -> Result<ScriptProgram, NoMemory>
-    ensures path { IfOk result (λ script. script.path ≡ path.now) }
-    ensures file { IfOk result (λ script. script.file ≡ file.now) }
-    ensures items { IfOk result (λ script. script.program.items ≡ decs.now.items ++ tree.now.items) }
+    ensures { IfOk result (λ script. script ≡ script_behind base.now path.now file.now tree.now) }
 {
     let mut items = Vec::new(alloc);
-    add_items(alloc, &mut items, decs)?;
+    add_items(alloc, &mut items, &base.decs)?;
     add_items(alloc, &mut items, tree)?;
     let program = Program {
         items: Listed::of(items),
@@ -83,6 +94,8 @@ fn script_behind(
         path,
         file,
         program,
+        prelude: base.prelude,
+        before: base.decs.items.as_slice().len() as u64,
     })
 }
 
@@ -90,16 +103,16 @@ fn script_behind(
 fn add_script(
     alloc: Global,
     scripts: &mut Vec<ScriptProgram>,
-    decs: &Program,
+    base: &Base,
     file: &ProjectFile,
     tree: &Program,
 ) -> Result<(), NoMemory>
-    ensures { OnOk result (scripts.new.items ≡ scripts.old.items ++ scripts_behind decs.now.items (file.now ∷ []) (tree.now ∷ [])) }
+    ensures { OnOk result (scripts.new.items ≡ scripts.old.items ++ scripts_behind base.now (file.now ∷ []) (tree.now ∷ [])) }
 {
     match file {
         ProjectFile::Library(_) => Ok(()),
         ProjectFile::Script(path, name) => {
-            scripts.push(script_behind(alloc, decs, path, name, tree)?)?;
+            scripts.push(script_behind(alloc, base, path, name, tree)?)?;
             Ok(())
         }
     }
@@ -108,23 +121,23 @@ fn add_script(
 // The scripts, each with its declarations behind others.
 fn scripts_behind(
     alloc: Global,
-    decs: &Program,
+    base: &Base,
     files: &[ProjectFile],
     trees: &[Program],
 ) -> Result<Vec<ScriptProgram>, NoMemory>
-    ensures { IfOk result (λ scripts. scripts.items ≡ scripts_behind decs.now.items files.now trees.now) }
+    ensures { IfOk result (λ scripts. scripts.items ≡ scripts_behind base.now files.now trees.now) }
 {
     let mut scripts = Vec::new(alloc);
     for i in 0..files.len().min(trees.len()) {
-        add_script(alloc, &mut scripts, decs, &files[i], &trees[i])?;
+        add_script(alloc, &mut scripts, base, &files[i], &trees[i])?;
     }
     Ok(scripts)
 }
 
 /// The program of each script of a project, in the project's order. A script takes all libraries, those also that stand
-/// behind it. Each place is that of the file that holds it, so places of two files may be the same.
+/// behind it.
 #[tactic(auto, using(crate::proofs::Programs::same_scripts))]
-pub fn script_programs(
+pub(crate) fn script_programs(
     alloc: Global,
     project: &ProjectTrees,
 ) -> Result<Vec<ScriptProgram>, NoMemory>
@@ -134,9 +147,10 @@ pub fn script_programs(
     let trees = project.trees.as_slice();
     let mut items = Vec::new(alloc);
     add_items(alloc, &mut items, &project.prelude)?;
+    let prelude = items.len() as u64;
     add_libraries(alloc, &mut items, files, trees)?;
     let decs = Program {
         items: Listed::of(items),
     };
-    scripts_behind(alloc, &decs, files, trees)
+    scripts_behind(alloc, &Base { decs, prelude }, files, trees)
 }

@@ -1,13 +1,14 @@
 // Projects over files in memory: their scripts, or the refusal.
 use outside_world::{Files, MemFiles};
-use script_loader::{LoadRefusal, ScriptProgram, load_trees, script_programs};
+use script_loader::{FrontScript, LoadRefusal, load_front};
 use sml_syntax::Text;
 use std::alloc::{AllocError, Global};
 use std::process::Abort;
 use std::test::Fail;
 
 // A load: the files with their texts, which reads fail, and the scripts or the refusal. A script is spelled with the
-// number of its declarations, and the place of the first one behind the prelude, where there is one.
+// number of its declarations behind the prelude, that of its own, and the place of the first of these among the texts
+// behind the prelude, where there is one.
 #[derive(Clone, Copy)]
 struct Load<'a> {
     files: &'a [(&'a str, &'a str)],
@@ -15,7 +16,7 @@ struct Load<'a> {
     want: &'a str,
 }
 
-const LOADS: [Load; 22] = [
+const LOADS: [Load; 35] = [
     Load {
         files: &[("site", "smlserver 1\n")],
         reads: &[],
@@ -28,7 +29,7 @@ const LOADS: [Load; 22] = [
             ("b", "  val x = 1 val y = 2"),
         ],
         reads: &[],
-        want: "/a|a|26|0 /b|b|27|2 ",
+        want: "/a|a|1|1|0 /b|b|2|2|2 ",
     },
     // libraries stand before each script, those behind it too
     Load {
@@ -39,7 +40,7 @@ const LOADS: [Load; 22] = [
             ("m", "val q = 1 val r = 2"),
         ],
         reads: &[],
-        want: "/a|a|29|3 ",
+        want: "/a|a|4|1|31 ",
     },
     // a file may be named twice, and a script may be empty
     Load {
@@ -48,7 +49,7 @@ const LOADS: [Load; 22] = [
             ("a", ""),
         ],
         reads: &[],
-        want: "/a|a|25| /b|a|25| ",
+        want: "/a|a|0|0| /b|a|0|0| ",
     },
     Load {
         files: &[],
@@ -167,7 +168,7 @@ const LOADS: [Load; 22] = [
             ("a", "fn x => fn x => x"),
         ],
         reads: &[],
-        want: "/a|a|26|0 ",
+        want: "/a|a|1|1|0 ",
     },
     Load {
         files: &[
@@ -175,7 +176,7 @@ const LOADS: [Load; 22] = [
             ("a/b.sml", "val x = 1;"),
         ],
         reads: &[],
-        want: "/a|a/b.sml|26|0 ",
+        want: "/a|a/b.sml|1|1|0 ",
     },
     Load {
         files: &[
@@ -184,6 +185,129 @@ const LOADS: [Load; 22] = [
         ],
         reads: &[],
         want: "FileFault|a|0",
+    },
+    // names without a binding, in the file that holds them
+    Load {
+        files: &[
+            ("site", "smlserver 1\nlib l\nscript /a a\n"),
+            ("l", "val p = 1"),
+            ("a", "val x = y"),
+        ],
+        reads: &[],
+        want: "Unbound|a|8",
+    },
+    Load {
+        files: &[
+            ("site", "smlserver 1\nscript /a a\nlib l\nlib m\n"),
+            ("a", "val x = y"),
+            ("l", "val p = 1"),
+            ("m", "val qq = p val r = s"),
+        ],
+        reads: &[],
+        want: "Unbound|m|19",
+    },
+    Load {
+        files: &[
+            ("site", "smlserver 1\r\nlib e\r\nlib l\r\nscript /a e\r\n"),
+            ("e", ""),
+            ("l", "val p = 1\r\nval q = r\r\n"),
+        ],
+        reads: &[],
+        want: "Unbound|l|19",
+    },
+    Load {
+        files: &[
+            ("site", "smlserver 1\nlib e\nscript /a a\n"),
+            ("e", ""),
+            ("a", "y"),
+        ],
+        reads: &[],
+        want: "Unbound|a|0",
+    },
+    // items without a typing
+    Load {
+        files: &[
+            ("site", "smlserver 1\nlib l\nlib m\nscript /a a\n"),
+            ("l", "val p = 1"),
+            ("m", "val q = \"q\" val r = p + q"),
+            ("a", "val x = 1"),
+        ],
+        reads: &[],
+        want: "Ill|m|12",
+    },
+    Load {
+        files: &[
+            ("site", "smlserver 1\nscript /a a\nlib l\nscript /b b\n"),
+            ("a", "val x = p + 1"),
+            ("l", "val p = 1"),
+            ("b", " val x = p ^ p"),
+        ],
+        reads: &[],
+        want: "Ill|b|1",
+    },
+    // names come before types within a script, and scripts one after another
+    Load {
+        files: &[
+            ("site", "smlserver 1\nscript /a a\n"),
+            ("a", "val x = 1 + \"a\" val y = z"),
+        ],
+        reads: &[],
+        want: "Unbound|a|24",
+    },
+    Load {
+        files: &[
+            ("site", "smlserver 1\nscript /a a\nscript /b b\n"),
+            ("a", "val x = 1 + \"a\""),
+            ("b", "val x = y"),
+        ],
+        reads: &[],
+        want: "Ill|a|0",
+    },
+    Load {
+        files: &[
+            ("site", "smlserver 1\nscript /a a\nscript /b b\n"),
+            ("a", "val x = y"),
+            ("b", "val x = 1 + \"a\""),
+        ],
+        reads: &[],
+        want: "Unbound|a|8",
+    },
+    // trees come before types, in all files
+    Load {
+        files: &[
+            ("site", "smlserver 1\nscript /a a\nscript /b b\nlib l\n"),
+            ("a", "val x = y"),
+            ("b", "val x = 1 + \"a\""),
+            ("l", "val x = = 2"),
+        ],
+        reads: &[],
+        want: "Unexpected|l|8",
+    },
+    // a library is typed with scripts alone
+    Load {
+        files: &[("site", "smlserver 1\nlib l\n"), ("l", "val x = y")],
+        reads: &[],
+        want: "",
+    },
+    // a script's names are its own
+    Load {
+        files: &[
+            ("site", "smlserver 1\nscript /a a\nscript /b b\n"),
+            ("a", "val x = 1"),
+            ("b", "val y = x"),
+        ],
+        reads: &[],
+        want: "Unbound|b|8",
+    },
+    Load {
+        files: &[
+            ("site", "smlserver 1\nlib l\nlib m\nscript /a a\n"),
+            ("l", "fun twice f x = f (f x)"),
+            ("m", "val four = twice (fn n => n + 1) 2"),
+            ("a", "val _ = Web.write (Int.toString four)"),
+        ],
+        reads: &[],
+        want: "/a|a|3|1|57 ",
     },
 ];
 
@@ -199,27 +323,32 @@ fn push_words(text: &mut Vec<u8>, words: &[&[u8]]) -> Result<(), AllocError> {
     Ok(())
 }
 
-// The declarations of the prelude.
-const PRELUDE_ITEMS: usize = 25;
+// The declarations and the bytes of the prelude.
+const PRELUDE_ITEMS: u64 = 25;
 
-fn push_script(
-    alloc: Global,
-    text: &mut Vec<u8>,
-    script: &ScriptProgram,
-) -> Result<(), AllocError> {
-    let items = script.program.items.as_slice();
-    let count = (items.len() as u64).to_string(alloc)?;
+const PRELUDE_BYTES: u64 = 1488;
+
+fn push_script(alloc: Global, text: &mut Vec<u8>, script: &FrontScript) -> Result<(), Fail> {
+    let items = script.typed.program.items.as_slice();
+    if script.prelude != PRELUDE_ITEMS {
+        Err("another prelude")?;
+    }
+    let count = items.len() as u64;
+    let all = count.saturating_sub(script.prelude).to_string(alloc)?;
+    let own = count.saturating_sub(script.before).to_string(alloc)?;
     push_words(
         text,
         &[
             script.path.as_bytes(),
             script.file.as_bytes(),
-            count.as_bytes(),
+            all.as_bytes(),
+            own.as_bytes(),
             b"",
         ],
     )?;
-    if let Some(dec) = items.get(PRELUDE_ITEMS) {
-        text.extend_from_slice(dec.span.from.to_string(alloc)?.as_bytes())?;
+    if let Some(dec) = items.get(script.before as usize) {
+        let place = dec.span.from.saturating_sub(PRELUDE_BYTES);
+        text.extend_from_slice(place.to_string(alloc)?.as_bytes())?;
     }
     text.push(b' ')?;
     Ok(())
@@ -240,6 +369,8 @@ fn parts(refusal: &LoadRefusal) -> Option<(&'static [u8], &Text, u64)> {
         LoadRefusal::Unsupported { file, place, .. } => Some((b"Unsupported", file, *place)),
         LoadRefusal::Unexpected { file, place } => Some((b"Unexpected", file, *place)),
         LoadRefusal::TooDeep { file, place } => Some((b"TooDeep", file, *place)),
+        LoadRefusal::Unbound { file, place } => Some((b"Unbound", file, *place)),
+        LoadRefusal::Ill { file, place } => Some((b"Ill", file, *place)),
         _ => None,
     }
 }
@@ -247,9 +378,9 @@ fn parts(refusal: &LoadRefusal) -> Option<(&'static [u8], &Text, u64)> {
 // What a load answers, as the table spells it.
 fn answer<F: Files>(alloc: Global, files: &mut F) -> Result<Vec<u8>, Fail> {
     let mut text = Vec::new(alloc);
-    match load_trees(alloc, files, &Text::from_bytes(alloc, b"site")?) {
-        Ok(trees) => {
-            for script in script_programs(alloc, &trees)?.as_slice() {
+    match load_front(alloc, files, &Text::from_bytes(alloc, b"site")?) {
+        Ok(front) => {
+            for script in front.scripts.as_slice() {
                 push_script(alloc, &mut text, script)?;
             }
         }
@@ -294,7 +425,10 @@ fn projects_are_loaded(rt: HostRuntime) -> Result<(), Fail> {
 #[test]
 fn projects_have_a_limit(rt: HostRuntime) -> Result<(), Fail> {
     let alloc = rt.alloc();
-    for (blanks, want) in [(1_048_537, "/a|a|26|0 "), (1_048_538, "TooLarge|site|0")] {
+    for (blanks, want) in [
+        (1_048_537, "/a|a|1|1|1048537 "),
+        (1_048_538, "TooLarge|site|0"),
+    ] {
         let mut files = MemFiles::make(alloc, &[])?;
         put_file(
             &mut files,

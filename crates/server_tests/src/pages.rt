@@ -2,7 +2,7 @@
 use outside_world::{MemClock, MemFiles, MemSink, MemSource};
 use sml_syntax::Text;
 use smlserver_top::run_words;
-use std::alloc::{AllocError, Allocator};
+use std::alloc::{AllocError, Allocator, Global};
 use std::process::Abort;
 use std::test::Fail;
 
@@ -11,6 +11,7 @@ use std::test::Fail;
 struct Run<'a> {
     words: &'a [&'a str],
     project: &'a str,
+    library: &'a str,
     script: &'a str,
     reads: &'a [u64],
     writes: &'a [u64],
@@ -30,6 +31,7 @@ const PAGE: &str = "<p>42</p>";
 const HELLO: Run = Run {
     words: &WORDS,
     project: PROJECT,
+    library: "",
     script: SCRIPT,
     reads: &[],
     writes: &[],
@@ -37,13 +39,20 @@ const HELLO: Run = Run {
     output: PAGE,
 };
 
+// Puts a file with this text.
+fn put_file(files: &mut MemFiles, alloc: Global, name: &str, text: &str) -> Result<(), Fail> {
+    let name = Text::from_bytes(alloc, name.as_bytes())?;
+    let text = Text::from_bytes(alloc, text.as_bytes())?;
+    files.put_file(&name, &text)?;
+    Ok(())
+}
+
 fn check(rt: &(impl Abort + AllocGlobal), run: &Run) -> Result<(), Fail> {
     let alloc = rt.alloc();
     let mut files = MemFiles::make(alloc, run.reads)?;
-    let site = Text::from_bytes(alloc, run.project.as_bytes())?;
-    files.put_file(&Text::from_bytes(alloc, b"site")?, &site)?;
-    let script = Text::from_bytes(alloc, run.script.as_bytes())?;
-    files.put_file(&Text::from_bytes(alloc, b"hello.sml")?, &script)?;
+    put_file(&mut files, alloc, "site", run.project)?;
+    put_file(&mut files, alloc, "lib.sml", run.library)?;
+    put_file(&mut files, alloc, "hello.sml", run.script)?;
     let mut input = MemSource::make(alloc, &[], &[])?;
     let mut output = MemSink::make(alloc, run.writes)?;
     let mut clock = MemClock::make(alloc, &[])?;
@@ -185,35 +194,39 @@ fn refuses_mistakes_with_their_places(rt: HostRuntime) -> Result<(), Fail> {
 fn reads_projects(rt: HostRuntime) -> Result<(), Fail> {
     for (project, status, output) in [
         ("smlserver 1\nscript /hello hello.sml", 0, PAGE),
+        ("smlserver 1\r\nscript /hello hello.sml\r\n", 0, PAGE),
         (
-            "smlserver 1\nscript /other hello.sml\n",
-            3,
-            "refused site 0 NotBuilt\n",
+            "# a comment\n\nsmlserver 1\npages 8\nscript /hello hello.sml\n\n",
+            0,
+            PAGE,
         ),
         (
-            "smlserver 1\r\nscript /hello hello.sml\r\n",
-            3,
-            "refused site 0 NotBuilt\n",
+            "smlserver 1\nscript /other lib.sml\nscript /hello hello.sml\nlib lib.sml\n",
+            0,
+            PAGE,
         ),
+        ("smlserver 1\nscript /other hello.sml\n", 1, "404 no script"),
+        ("smlserver 1\n", 1, "404 no script"),
         (
-            "smlserver 1\n\nscript /hello hello.sml\n",
+            "smlserver 1\nlib hello.sml\nscript /hello hello.sml\n",
             3,
-            "refused site 0 NotBuilt\n",
-        ),
-        (
-            "smlserver 1\nscript /hello hello.sml\n\n",
-            3,
-            "refused site 0 NotBuilt\n",
+            "refused hello.sml 0 NotBuilt\n",
         ),
         (
             "smlserver 1\nscript /hello a/../hello.sml\n",
             3,
-            "refused site 0 NotBuilt\n",
+            "refused site 2 ProjectLine\n",
         ),
         (
             "smlserver 1\nscript /hello /hello.sml\n",
             3,
-            "refused site 0 NotBuilt\n",
+            "refused site 2 ProjectLine\n",
+        ),
+        ("", 3, "refused site 1 ProjectLine\n"),
+        (
+            "smlserver 1\nscript /a lib.sml\nscript /a hello.sml\nbogus\n",
+            3,
+            "refused site 3 TwoPaths\n",
         ),
         (
             "smlserver 1\nscript /hello none.sml\n",
@@ -225,7 +238,6 @@ fn reads_projects(rt: HostRuntime) -> Result<(), Fail> {
             3,
             "refused a..b/none.sml 0 FileFault\n",
         ),
-        ("", 3, "refused site 0 NotBuilt\n"),
     ] {
         check(
             &rt,
@@ -241,11 +253,41 @@ fn reads_projects(rt: HostRuntime) -> Result<(), Fail> {
 }
 
 #[test]
-fn refuses_other_words(rt: HostRuntime) -> Result<(), Fail> {
+fn tells_the_place_in_the_file_that_holds_it(rt: HostRuntime) -> Result<(), Fail> {
+    for (library, output) in [
+        ("val x = 1", "refused hello.sml 0 NotBuilt\n"),
+        ("val x = 1 val = 2", "refused lib.sml 14 Unexpected\n"),
+        ("val x = 1 val y = z", "refused lib.sml 18 Unbound\n"),
+        ("val x = 1\nval y = x + \"a\"", "refused lib.sml 10 Ill\n"),
+        ("val x = 1.5", "refused lib.sml 8 Unsupported Reals\n"),
+    ] {
+        check(
+            &rt,
+            &Run {
+                project: "smlserver 1\nscript /hello hello.sml\nlib lib.sml\n",
+                library,
+                status: 3,
+                output,
+                ..HELLO
+            },
+        )?;
+    }
+    Ok(())
+}
+
+#[test]
+fn takes_the_words_of_commands(rt: HostRuntime) -> Result<(), Fail> {
     let none = "refused none 0 FileFault\n";
     let bad = "bad words\n";
-    let cases: [(&[&str], u8, &str); 8] = [
+    let cases: [(&[&str], u8, &str); 15] = [
+        (&["check", "site"], 0, "ok\n"),
+        (&["check", "none"], 3, none),
+        (&["check", ""], 3, "refused  0 FileFault\n"),
+        (&["check"], 2, bad),
+        (&["check", "site", ""], 2, bad),
+        (&["check", "--site"], 2, bad),
         (&["page", "none", "/hello", ""], 3, none),
+        (&["page", "site", "/hello?a=b", ""], 1, "404 no script"),
         (&["page", "site", "/hello"], 2, bad),
         (&[], 2, bad),
         (&["page", "site", "/hello", "", ""], 2, bad),
@@ -259,6 +301,32 @@ fn refuses_other_words(rt: HostRuntime) -> Result<(), Fail> {
             &rt,
             &Run {
                 words,
+                status,
+                output,
+                ..HELLO
+            },
+        )?;
+    }
+    Ok(())
+}
+
+// What isn't run yet has no mistake.
+#[test]
+fn checks_scripts_that_are_not_run(rt: HostRuntime) -> Result<(), Fail> {
+    for (script, status, output) in [
+        ("", 0, "ok\n"),
+        ("fun f x = x val _ = Web.write (f \"a\")", 0, "ok\n"),
+        (
+            "val x = ref [] val _ = x := [1] val _ = x := [\"a\"]",
+            3,
+            "refused hello.sml 32 Ill\n",
+        ),
+    ] {
+        check(
+            &rt,
+            &Run {
+                words: &["check", "site"],
+                script,
                 status,
                 output,
                 ..HELLO
@@ -330,11 +398,12 @@ fn refuses_a_script_that_is_too_high(rt: HostRuntime) -> Result<(), Fail> {
     )
 }
 
+// The project file and its script have 1,048,576 bytes together, or one more.
 #[test]
-fn reads_files_up_to_their_limits(rt: HostRuntime) -> Result<(), Fail> {
+fn reads_files_up_to_their_limit(rt: HostRuntime) -> Result<(), Fail> {
     for (length, status, output) in [
-        (1_048_576, 0, PAGE),
-        (1_048_577, 3, "refused hello.sml 0 NotBuilt\n"),
+        (1_048_540, 0, PAGE),
+        (1_048_541, 3, "refused site 0 TooLarge\n"),
     ] {
         let script = padded(rt.alloc(), SCRIPT, length)?;
         check(
@@ -347,14 +416,5 @@ fn reads_files_up_to_their_limits(rt: HostRuntime) -> Result<(), Fail> {
             },
         )?;
     }
-    let project = padded(rt.alloc(), PROJECT, 4097)?;
-    check(
-        &rt,
-        &Run {
-            project: project.as_str(),
-            status: 3,
-            output: "refused site 0 NotBuilt\n",
-            ..HELLO
-        },
-    )
+    Ok(())
 }

@@ -1,5 +1,4 @@
-pub mod Curried
-pub mod Folds
-pub mod Items
-pub mod LackSearch
 pub mod Parsed
+pub mod Lowest
+pub mod Meaning
+pub mod Grammar

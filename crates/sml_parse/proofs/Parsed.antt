@@ -11,9 +11,9 @@ use Rattle.sml_grammar.specs.Machine.{Accepts, outcome_of}
 use Rattle.sml_grammar.specs.Reads.{Reads}
 use Rattle.sml_parse.specs.declared.parser.ParseRefusal.{ParseRefusal}
 use Rattle.sml_parse.specs.declared.parser.ParseRefusal.TheVariants as refusal
-use Rattle.sml_parse.specs.Building.{program_of}
-use Rattle.sml_parse.specs.Heights.{first_high}
-use Rattle.sml_parse.specs.Lacks.{first_lack}
+use Rattle.parse_build.specs.Building.{program_of}
+use Rattle.parse_limits.specs.Heights.{first_high}
+use Rattle.parse_limits.specs.Lacks.{first_lack}
 use Rattle.sml_parse.specs.Parsed.{Answers, refused, by_outcome, by_lack, by_height, parsed}
 
 pub unexpected : (tokens : List Token) (r : ReadRefusal) → Reads (Err r) (outcome_of tokens) → Answers (Err (refused r)) (parsed tokens)

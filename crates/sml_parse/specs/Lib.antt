@@ -1,5 +1,2 @@
-pub mod Values
-pub mod Building
-pub mod Heights
-pub mod Lacks
 pub mod Parsed
+pub mod Parses

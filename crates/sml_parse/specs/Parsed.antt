@@ -9,9 +9,9 @@ use Rattle.sml_grammar.specs.declared.machine.ReadRefusal.{ReadRefusal}
 use Rattle.sml_grammar.specs.declared.machine.ReadRefusal.TheVariants as read
 use Rattle.sml_parse.specs.declared.parser.ParseRefusal.{ParseRefusal}
 use Rattle.sml_parse.specs.declared.parser.ParseRefusal.TheVariants as refusal
-use Rattle.sml_parse.specs.Building.{program_of}
-use Rattle.sml_parse.specs.Heights.{first_high}
-use Rattle.sml_parse.specs.Lacks.{first_lack}
+use Rattle.parse_build.specs.Building.{program_of}
+use Rattle.parse_limits.specs.Heights.{first_high}
+use Rattle.parse_limits.specs.Lacks.{first_lack}
 use Rattle.sml_syntax.specs.NestedTypes.{Found}
 
 abbrev pub by_height : Option ℕ → List Made → Result Program ParseRefusal

@@ -1,10 +1,13 @@
 // The parser.
 ghost use Rattle.std.specs.Prelude.{◌≡◌};
+ghost use Rattle.std.specs.Prelude.{Result};
+ghost use Rattle.sml_syntax.specs.declared.tree.Program.{Program as ProgramSeen};
 ghost use Rattle.sml_parse.specs.Parsed.{parsed, Answers};
+ghost use Rattle.sml_parse.specs.Parses.{Parses, IsAnswer, Gives, OneAnswer};
+ghost use Rattle.sml_parse.specs.declared.parser.ParseRefusal.{ParseRefusal as RefusalSeen};
 
-use crate::build::build;
-use crate::height::first_high;
-use crate::lacks::first_lack;
+use parse_build::build;
+use parse_limits::{first_high, first_lack};
 use sml_grammar::{ReadRefusal, read};
 use sml_syntax::{Lack, NoMemory, Program, Token};
 use std::alloc::Global;
@@ -44,9 +47,9 @@ impl From<NoMemory> for ParseRefusal {
     }
 }
 
-/// The tree of tokens.
+// The tree of tokens, as the machine tells it.
 #[tactic(auto, using(crate::proofs::Parsed::unexpected, crate::proofs::Parsed::unsupported, crate::proofs::Parsed::too_deep, crate::proofs::Parsed::built))]
-pub fn parse(alloc: Global, tokens: &[Token]) -> Result<Program, ParseRefusal>
+fn read_tree(alloc: Global, tokens: &[Token]) -> Result<Program, ParseRefusal>
     ensures { Answers result (parsed tokens.now) }
 {
     let acts = read(alloc, tokens)?;
@@ -59,3 +62,22 @@ pub fn parse(alloc: Global, tokens: &[Token]) -> Result<Program, ParseRefusal>
     let items = build(alloc, acts)?;
     Ok(Program { items })
 }
+
+/// The tree of tokens by the grammar of programs. There is at most one; each that is there is found, unless an item is
+/// higher than 200 or memory is wanting.
+#[tactic(auto, using(crate::proofs::Grammar::meets, crate::proofs::Grammar::gives))]
+pub fn parse(alloc: Global, tokens: &[Token]) -> Result<Program, ParseRefusal>
+    ensures answer { IsAnswer tokens.now result }
+    ensures found { (answer : Result ProgramSeen RefusalSeen) → Parses tokens.now answer → Gives result answer }
+
+    // The same as a function of the tokens: what the machine of `sml_grammar` makes of them.
+    ensures machine { Answers result (parsed tokens.now) }
+{
+    read_tree(alloc, tokens)
+}
+
+/// Tokens have one answer: one tree, or one cause of a refusal.
+#[tactic(auto, using(crate::proofs::Meaning::one_answer))]
+pub fn tokens_have_one_answer()
+    ensures { OneAnswer }
+{}

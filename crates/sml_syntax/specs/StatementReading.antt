@@ -1,5 +1,5 @@
 -- How a statement is read, a byte at a time: the command that it is, or the place up to which it begins one.
--- It is meant to be `Statement` and `NoStatement` as a function. That it is has no proof yet.
+-- It is `Statement` and `NoStatement` as a function, which `db_text` proves.
 use Rattle.std.specs.Prelude.{ℕ, ◌+◌, max, List, [], ◌∷◌, ◌++◌, length, map, if◌then◌else◌, ◌==◌, ◌&&◌, nat_lt, Option, Some, None}
 use Rattle.std.specs.Option.{option_map_or}
 use Rattle.std.specs.List.{slice_index_or}

@@ -17,8 +17,8 @@ use clock::RealClock;
 use db_keeper::{Keeper, MapKeeper};
 use db_sqlite::SqliteKeeper;
 use files::RealFiles;
-use sml_syntax::NoMemory;
-use smlserver_top::run_words;
+use sml_syntax::{NoMemory, Text};
+use smlserver_top::{explain, run_words};
 use std::alloc::Global;
 use std::io::{ErrorKind, Print, Write};
 use std::process::ExitCode;
@@ -26,6 +26,9 @@ use std::rt::{Env, Runtime};
 use std::{env, io};
 use streams::{StreamSink, StreamSource};
 use usage::{USAGE, VERSION, print_text};
+
+/// The status where a project is refused.
+const REFUSED: u8 = 3;
 
 /// The status where memory is wanting.
 const NO_MEMORY: u8 = 7;
@@ -50,13 +53,14 @@ fn answer(rt: &HostRuntime, files: &[&str]) -> Result<u8, NoMemory> {
             keepers.push(Box::new(alloc, keeper)?)?;
         }
     }
-    answer_args(rt, keepers)
+    answer_args(rt, keepers, rt.stderr())
 }
 
 // The status for the words that the program was started with.
-fn answer_args(
+fn answer_args<E: Write + Drop>(
     rt: &(impl Runtime + AllocGlobal),
     keepers: Vec<Box<dyn Keeper + Send>>,
+    errors: E,
 ) -> Result<u8, NoMemory> {
     let args = read_args(rt)?;
     let mut words = Vec::new(rt.alloc());
@@ -69,7 +73,34 @@ fn answer_args(
         [word] if *word == "--version" => print_text(&mut output, VERSION),
         words => run_command(rt, words, &mut output, keepers)?,
     };
-    Ok(output.finish(status))
+    let status = output.finish(status);
+    if status == REFUSED {
+        explain_refusal(rt, words.as_slice(), &output, errors).unwrap_or(());
+    }
+    Ok(status)
+}
+
+// Says what the line of a refusal means. What can't be read or written then is left out.
+fn explain_refusal<R: Runtime + AllocGlobal, W: Write + Drop, E: Write + Drop>(
+    rt: &R,
+    words: &[&str],
+    output: &StreamSink<W>,
+    mut errors: E,
+) -> Result<(), NoMemory> {
+    let Some(line) = output.whole_output() else {
+        return Ok(());
+    };
+    let name = project_of(words);
+    let mut files = RealFiles::make(rt, rt.alloc(), name);
+    let project = Text::from_bytes(rt.alloc(), name.as_bytes())?;
+    let text = explain(rt.alloc(), &mut files, &project, line)?;
+    errors.write_all(text.as_bytes()).unwrap_or(());
+    Ok(())
+}
+
+// The name of the project's file. Each command that reads files has it second.
+fn project_of<'a>(words: &[&'a str]) -> &'a str {
+    words.get(1).copied().unwrap_or("")
 }
 
 // The words after the program's name. Where one is no text there are none, so that they are of no command.
@@ -81,16 +112,14 @@ fn read_args(rt: &(impl Env + AllocGlobal)) -> Result<Vec<String>, NoMemory> {
     }
 }
 
-// Runs a command over the files, the input and the clock of the system. Each command that reads files names
-// its project second. No command asks a keeper yet.
+// Runs a command over the files, the input and the clock of the system. No command asks a keeper yet.
 fn run_command<R: Runtime + AllocGlobal, W: Write + Drop>(
     rt: &R,
     words: &[&str],
     output: &mut StreamSink<W>,
     _keepers: Vec<Box<dyn Keeper + Send>>,
 ) -> Result<u8, NoMemory> {
-    let project = words.get(1).copied().unwrap_or("");
-    let mut files = RealFiles::make(rt, rt.alloc(), project);
+    let mut files = RealFiles::make(rt, rt.alloc(), project_of(words));
     let mut input = StreamSource::make(rt.alloc(), rt.reader())?;
     let mut clock = RealClock::make(rt);
     Ok(run_words(

@@ -1,5 +1,5 @@
 // Input and output of the system, with a buffer each.
-ghost use Rattle.std.specs.Prelude.{◌≡◌, ◌≢◌, None, [], IfOk};
+ghost use Rattle.std.specs.Prelude.{◌≡◌, ◌≢◌, ◌++◌, None, [], IfOk, IsSome, IsTrue};
 ghost use Rattle.std.specs.Io.Buffered.{writer_buffer};
 ghost use Rattle.outside_world.specs.Told.{Rose};
 
@@ -55,11 +55,17 @@ impl<R: Read + Drop> Source for StreamSource<R> {
     }
 }
 
-/// A writer of the system. It tells nothing of its bytes, and holds some back until `finish`.
+/// The greatest number of bytes of an output that are kept.
+const KEPT_MOST: usize = 8192;
+
+/// A writer of the system. It tells nothing of its bytes, and holds some back until `finish`. It keeps a short output, so
+/// that the line of a refusal can be read again.
 #[derive(Drop)]
 pub struct StreamSink<W: Write + Drop> {
     writer: BufWriter<W>,
     faults: u64,
+    taken: Vec<u8>,
+    is_whole: bool,
 }
 
 impl<W: Write + Drop> StreamSink<W> {
@@ -70,7 +76,40 @@ impl<W: Write + Drop> StreamSink<W> {
         let Ok(writer) = BufWriter::new(alloc, writer) else {
             return Err(NoMemory);
         };
-        Ok(StreamSink { writer, faults: 0 })
+        Ok(StreamSink {
+            writer,
+            faults: 0,
+            taken: Vec::new(alloc),
+            is_whole: true,
+        })
+    }
+
+    /// All that was written, where it is short and memory was there to keep it.
+    pub fn whole_output(&self) -> Option<&[u8]>
+        ensures { IsSome result → IsTrue self.now.is_whole }
+    {
+        if self.is_whole {
+            Some(&self.taken)
+        } else {
+            None
+        }
+    }
+
+    // Keeps what was taken, unless it is too much.
+    fn keep(&mut self, bytes: &[u8])
+        ensures whole { IsTrue self.new.is_whole → IsTrue self.old.is_whole × (self.new.taken.items ≡ self.old.taken.items ++ bytes.now) }
+        ensures faults { self.new.faults ≡ self.old.faults }
+    {
+        if !self.is_whole {
+            return;
+        }
+        if bytes.len() > KEPT_MOST || self.taken.len() > KEPT_MOST - bytes.len() {
+            self.is_whole = false;
+            return;
+        }
+        if self.taken.extend_from_slice(bytes).is_err() {
+            self.is_whole = false;
+        }
     }
 
     /// Writes what was held back. The status stays as it was, unless that failed.
@@ -98,7 +137,10 @@ impl<W: Write + Drop> Sink for StreamSink<W> {
 
     fn write(&mut self, piece: &[u8]) -> Result<usize, WriteRefusal> {
         match self.writer.write(piece) {
-            Ok(n) if n > 0 || piece.is_empty() => Ok(n),
+            Ok(n) if n > 0 || piece.is_empty() => {
+                self.keep(&piece[..n]);
+                Ok(n)
+            }
             _ => {
                 self.faults = self.faults.saturating_add(1);
                 Err(WriteRefusal::Failed)

@@ -3,6 +3,7 @@ use crate::clock::RealClock;
 use crate::files::RealFiles;
 use crate::streams::{StreamSink, StreamSource};
 use crate::usage::print_text;
+use crate::{REFUSED, explain_refusal, run_command};
 use outside_world::{Clock, FileRefusal, Files, Sink, Source, WriteRefusal};
 use sml_syntax::Text;
 use std::io::Write;
@@ -102,4 +103,38 @@ fn reads_the_clock(rt: HostRuntime) {
     // the first second of the year 2024
     assert!(rt; first >= 1_704_067_200);
     assert!(rt; clock.now() >= first);
+}
+
+// A refused project: its line, and what is said of it. The script's file lies beside the project's.
+#[test]
+fn explains_a_refusal(rt: HostRuntime) -> Result<(), Fail> {
+    let alloc = rt.alloc();
+    let folder = env::temp_dir(&rt)?;
+    let project = folder.join(alloc, "smlserver_test_refused")?;
+    let script = folder.join(alloc, "smlserver_test_refused.sml")?;
+    fs::write(
+        &rt,
+        project.as_str(),
+        "smlserver 1\nscript /a smlserver_test_refused.sml\n",
+    )?;
+    fs::write(&rt, script.as_str(), "val x = 1\n\tval y = x + z\n")?;
+    let words = ["check", project.as_str()];
+    let mut taken = Vec::new(alloc);
+    let mut said = Vec::new(alloc);
+    let mut output = StreamSink::make(alloc, with_room(&mut taken, 100))?;
+    let status = run_command(&rt, &words, &mut output, Vec::new(alloc))?;
+    assert_eq!(rt; output.finish(status), REFUSED);
+    explain_refusal(&rt, &words, &output, with_room(&mut said, 1000))?;
+    drop(output);
+    fs::remove_file(&rt, project.as_str())?;
+    fs::remove_file(&rt, script.as_str())?;
+    assert_eq!(rt;
+        taken.as_slice(),
+        b"refused smlserver_test_refused.sml 23 Unbound\n".as_slice()
+    );
+    assert_eq!(rt;
+        said.as_slice(),
+        b"smlserver_test_refused.sml:2:14: nothing binds this name; mend its spelling or declare it above (a script sees the prelude and all libraries, and no other script)\n\tval y = x + z\n\t            ^\n".as_slice()
+    );
+    Ok(())
 }

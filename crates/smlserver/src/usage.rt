@@ -14,16 +14,20 @@ pub const USAGE: &str = "smlserver: web pages by scripts in Standard ML
 
 Usage:
   smlserver page PROJECT PATH QUERY   writes the page at PATH; QUERY is empty (\"\") so far
+  smlserver check PROJECT             writes `ok` where the project has no mistake
   smlserver --help                    writes this text
   smlserver --version                 writes the version
 
-PROJECT is the name of a project file: the line `smlserver 1` and a line
-`script PATH FILE`. FILE lies in the folder of the project file.
+PROJECT is the name of a project file. Its first line is `smlserver 1`, and behind it come lines
+`lib FILE`, `script PATH FILE`, `database NAME`, `budget N` and `pages N`. Each FILE lies in the
+folder of the project file.
 
 Exit statuses:
-  0  the page was written
+  0  the page was written, or the project has no mistake
+  1  the project has no script at PATH; `404 no script` was written
   2  the words are none of the above; `bad words` was written
-  3  the project or its script was refused; a line `refused FILE PLACE NAME` was written
+  3  the project was refused, or its script isn't run yet; a line `refused FILE PLACE NAME` was
+     written, and to standard error what it means and the line of the file
   4  a write failed
   7  memory was wanting
 ";

@@ -16,7 +16,7 @@ use Rattle.kam_code.specs.State.{State, start}
 use Rattle.kam_code.specs.Layout.{text_words}
 use Rattle.kam_code.specs.Word.{word_of, number_of, spelling}
 use Rattle.kam_code.specs.Memory.{text_behind}
-use Rattle.kam_code.specs.Step.{Halted, Goes, Ends, Result, Word as word_result, Text as text_result, Throws, Body, of_found, delivered, number_result, with_found, onward, overflow, act, step, and_then, steps, Writes, NeverStuck}
+use Rattle.kam_code.specs.Step.{Halted, Goes, Ends, Word as word_result, Text as text_result, Throws, Body, of_found, delivered, number_result, with_found, onward, overflow, act, step, and_then, steps, Writes, NeverStuck}
 use Rattle.kam_code.proofs.Packed.{IsBytes, text_words_length}
 use Rattle.kam_code.proofs.Regions.{text_behind-with_more, text_behind-made}
 use Rattle.kam_code.proofs.Runs.{steps-suc, writes-never_stuck}

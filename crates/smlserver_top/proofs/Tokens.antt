@@ -32,3 +32,12 @@ page_words_are (w ∷ x ∷ y ∷ z ∷ v ∷ more) d project path l m e p q f =
 pub begins_by : (o : Option (Bor (List ℕ))) (front text : List ℕ) (r : Bool) → option_copied o ≡ after front text → r ≡ is_some o → r ≡ begins_with front text
 begins_by None front text r e f = f ∙ ap is_some e ∙ begins_after front text
 begins_by (Some x) front text r e f = f ∙ ap is_some e ∙ begins_after front text
+
+-- the two words of a check
+pub check_words_are : (words : List (Bor (List ℕ))) (d : Bor (List ℕ)) (project : List ℕ) → 2 ≤ length words → length words < 3 → bytes_eq (get_or words 0 d).now (codes "check") ≡ true → project ≡ (get_or words 1 d).now → map (λ (w : Bor (List ℕ)). w.now) words ≡ codes "check" ∷ project ∷ []
+check_words_are [] d project l m e p = absurd (omega arith)
+check_words_are (w ∷ []) d project l m e p = absurd (omega arith)
+check_words_are (w ∷ x ∷ []) d project l m e p =
+    let first : w.now ≡ codes "check" = (bytes_eq-Decides w.now (codes "check")).0 e in
+    rw (first, ← p) refl
+check_words_are (w ∷ x ∷ y ∷ more) d project l m e p = absurd (omega arith)

@@ -1,172 +1,104 @@
--- What a page command gives, and when each of its refusals comes.
-use Rattle.std.specs.Prelude.{◌≡◌, ◌⊎◌, ◌≤◌, ℕ, List, [], ◌∷◌, ◌++◌, length, Option, Some, None, ◌^◌, codes}
-use Rattle.outside_world.specs.Told.{Rose, Contents, HoldsFile, LacksFile, HoldsLongFile, GrewByFront}
-use Rattle.smlserver_top.specs.declared.page.Stop.{Stop}
-use Rattle.smlserver_top.specs.declared.page.Stop.TheVariants.{BadWords, Refused, NoMemory}
-use Rattle.smlserver_top.specs.declared.refusal.ScriptRefusal.{ScriptRefusal}
-use Rattle.smlserver_top.specs.declared.refusal.ScriptRefusal.TheVariants as script
-use Rattle.smlserver_top.specs.declared.refusal.Mistake.{Mistake}
-use Rattle.smlserver_top.specs.declared.refusal.Reason.{Reason}
-use Rattle.smlserver_top.specs.declared.refusal.Reason.TheVariants.{FileFault, NotBuilt, Mistaken, Ill}
-use Rattle.smlserver_top.specs.declared.part.Part.{Part}
-use Rattle.sml_syntax.specs.declared.tree.Program.{Program}
+-- The answers of the commands: of `page` by the scripts of a project, and of both where a project isn't loaded.
+use Rattle.std.specs.Prelude.{◌≡◌, ◌⊎◌, ℕ, List, [], ◌∷◌, ◌++◌, drop, map, Option, Some, None, if◌then◌else◌, codes}
+use Rattle.std.specs.Str.{bytes_eq}
+use Rattle.outside_world.specs.Told.{Contents}
+use Rattle.sml_syntax.specs.declared.tree.Dec.{Dec}
 use Rattle.sml_syntax.specs.Page.{PageOf, Finished, html_type}
+use Rattle.script_loader.specs.declared.refusal.LoadRefusal.{LoadRefusal}
+use Rattle.script_loader.specs.Seen.{Trees, Script}
+use Rattle.script_loader.specs.declared.front.LoadedFront.{LoadedFront}
+use Rattle.script_loader.specs.declared.front.FrontScript.{FrontScript}
+use Rattle.script_loader.specs.Scripts.{scripts_of}
+use Rattle.script_loader.specs.Front.{HasFront, FrontCause, TypeCause, IsIllIn}
+use Rattle.smlserver_top.specs.declared.part.Part.{Part}
 use Rattle.smlserver_top.specs.Straight.{IsStraight}
-use Rattle.smlserver_top.specs.Project.{IsProject}
-use Rattle.smlserver_top.specs.Words.{IsPageCommand, AreBadWords}
-use Rattle.sml_syntax.specs.PreludeText.{prelude_text}
-use Rattle.smlserver_top.specs.Reasons.{HasNoTree, HasBoundTree, IsMistaken, IsIll, refusal_line}
+use Rattle.smlserver_top.specs.Refusal.{line_of, not_built_line}
 
--- the greatest lengths of a project file and of a script
-abbrev pub project_most : ℕ
-project_most = 4096
+-- a script with its program, without its types
+abbrev pub program_of : FrontScript → Script
+program_of script = record { path = script.path; file = script.file; program = script.typed.program; prelude = script.prelude; before = script.before }
 
-abbrev pub script_most : ℕ
-script_most = 2 ^ 20
+abbrev pub programs_of : LoadedFront → List Script
+programs_of front = map program_of front.scripts
 
--- the files hold this text under this name, where they tell it, and it has at most so many bytes
-pub record HoldsText (contents : Contents) (most : ℕ) (name text : List ℕ) : Type 0 where
-  pub held : HoldsFile contents name text
-  pub short : length text ≤ most
+-- the script under a path
+abbrev pub script_at : List ℕ → List Script → Option Script
+script_at path [] = None
+script_at path (script ∷ scripts) = if bytes_eq script.path path then Some script else script_at path scripts
 
--- what the files hold under the name is longer, or a text that is unfit
-abbrev pub HoldsUnfit : Contents → ℕ → List ℕ → (List ℕ → Type 0) → Type 0
-HoldsUnfit contents most name unfit = HoldsLongFile contents name most ⊎ ((text : List ℕ) × HoldsText contents most name text × unfit text)
+-- the declarations of a script's own file
+abbrev pub own_items : Script → List Dec
+own_items script = drop script.before script.program.items
 
--- the files hold nothing under the name, or their count of faults rose in the call
-abbrev pub IsMissing : Contents → ℕ → ℕ → List ℕ → Type 0
-IsMissing contents before after name = LacksFile contents name ⊎ Rose before after
-
--- no project with a script under the path
-abbrev pub HasNoScript : List ℕ → List ℕ → Type 0
-HasNoScript path text = (file : List ℕ) → IsProject text path file → ⊥
-
--- the words ask for this project, and the files hold it with this script's file under the path asked for
-pub record LeadsTo (contents : Contents) (words : List (List ℕ)) (file : List ℕ) : Type 0 where
-  pub project : List ℕ
-  pub path : List ℕ
-  pub text : List ℕ
-  pub words_form : IsPageCommand words project path
-  pub project_held : HoldsText contents project_most project text
-  pub project_form : IsProject text path file
-
--- the script's tree is of the form that is run: evaluating its declarations from an empty store, without a form,
--- databases or answers, makes no call and ends with this body
-pub record HasBody (script body : List ℕ) : Type 0 where
-  pub program : Program
-  pub tree : HasBoundTree script program
+-- No library declares anything before the script, and its own declarations are of the form that is run. Evaluating them from
+-- an empty store, without a form, databases or answers, makes no call and ends with this body.
+pub record HasBody (script : Script) (body : List ℕ) : Type 0 where
+  pub alone : script.before ≡ script.prelude
   pub parts : List Part
-  pub form : IsStraight program.items parts
-  pub evaluated : PageOf program.items [] [] [] [] (Finished 200 html_type body)
+  pub form : IsStraight (own_items script) parts
+  pub evaluated : PageOf (own_items script) [] [] [] [] (Finished 200 html_type body)
 
--- the script has a tree all of whose names are bound, and this is not of the form that is run
-pub record HasNoParts (script : List ℕ) : Type 0 where
-  pub program : Program
-  pub tree : HasBoundTree script program
-  pub none : (parts : List Part) → IsStraight program.items parts → ⊥
+-- libraries declare something before the script, or it isn't of the form that is run
+abbrev pub HasNoParts : Script → Type 0
+HasNoParts script = script.before ≡ script.prelude → (parts : List Part) → IsStraight (own_items script) parts → ⊥
 
--- the page that the words ask for has this body: that of the script under the path
-pub record IsPage (contents : Contents) (words : List (List ℕ)) (body : List ℕ) : Type 0 where
-  pub file : List ℕ
-  pub script : List ℕ
-  pub leads : LeadsTo contents words file
-  pub script_held : HoldsText contents script_most file script
-  pub has_body : HasBody script body
+-- the body of the server's answer to a path without a script
+abbrev pub no_script_body : List ℕ
+no_script_body = codes "404 no script"
 
--- the words ask for this project file, or it leads to this script's file
-abbrev pub IsAskedFor : Contents → List (List ℕ) → List ℕ → Type 0
-IsAskedFor contents words file = ((path : List ℕ) × IsPageCommand words file path) ⊎ LeadsTo contents words file
+-- what `page` answers, by the script under its path: a status and a text
+abbrev pub IsScriptAnswer : Option Script → ℕ → List ℕ → Type 0
+IsScriptAnswer None status text = (status ≡ 1) × (text ≡ no_script_body)
+IsScriptAnswer (Some script) status text = ((status ≡ 0) × HasBody script text) ⊎ ((status ≡ 3) × HasNoParts script × (text ≡ not_built_line script.file))
 
--- the words ask for this project file, which is no project with a script under their path
-abbrev pub IsBadProject : Contents → List (List ℕ) → List ℕ → Type 0
-IsBadProject contents words file = (path : List ℕ) × IsPageCommand words file path × HoldsUnfit contents project_most file (HasNoScript path)
+abbrev pub IsPathAnswer : List ℕ → List Script → ℕ → List ℕ → Type 0
+IsPathAnswer path scripts status text = IsScriptAnswer (script_at path scripts) status text
 
--- the project leads to this file, which is no script of the form that is run
-abbrev pub IsBadScript : Contents → List (List ℕ) → List ℕ → Type 0
-IsBadScript contents words file = LeadsTo contents words file × HoldsUnfit contents script_most file HasNoParts
+-- the line of a refusal with a cause
+abbrev pub IsLineOf : (LoadRefusal → Type 0) → List ℕ → Type 0
+IsLineOf Cause line = (e : LoadRefusal) × Cause e × (line_of e ≡ Some line)
 
--- the words lead to this file, and it isn't of the form that it must have
-abbrev pub IsNotBuilt : Contents → List (List ℕ) → List ℕ → Type 0
-IsNotBuilt contents words file = IsBadProject contents words file ⊎ IsBadScript contents words file
+-- the line of a script that isn't typed, and of one with an item without a typing
+abbrev pub IsTypeLine : Trees → List ℕ → Type 0
+IsTypeLine trees line = IsLineOf (TypeCause trees) line
 
--- the project leads to this file, whose text meets this mistake first
-pub record IsMistakenScript (contents : Contents) (words : List (List ℕ)) (file : List ℕ) (found : ℕ × Mistake) : Type 0 where
-  pub leads : LeadsTo contents words file
-  pub script : List ℕ
-  pub script_held : HoldsText contents script_most file script
-  pub mistaken : IsMistaken script found
+abbrev pub IsIllLine : Trees → List ℕ → Type 0
+IsIllLine trees line = IsLineOf (IsIllIn trees) line
 
--- the project leads to this file, in whose text no types were found for the item at this place
-pub record IsIllScript (contents : Contents) (words : List (List ℕ)) (file : List ℕ) (place : ℕ) : Type 0 where
-  pub leads : LeadsTo contents words file
-  pub script : List ℕ
-  pub script_held : HoldsText contents script_most file script
-  pub ill : IsIll script place
+-- the line that a project isn't loaded
+abbrev pub IsRefusedBy : Contents → ℕ → ℕ → List ℕ → List ℕ → Type 0
+IsRefusedBy contents before after project line = IsLineOf (FrontCause contents before after project) line
 
--- why a file is refused, by its reason
-abbrev pub IsRefused : Contents → ℕ → ℕ → List (List ℕ) → List ℕ → Reason → Type 0
-IsRefused contents before after words file FileFault = IsAskedFor contents words file × IsMissing contents before after file
-IsRefused contents before after words file NotBuilt = IsNotBuilt contents words file
-IsRefused contents before after words file (Mistaken place mistake) = IsMistakenScript contents words file (place, mistake)
-IsRefused contents before after words file (Ill place) = IsIllScript contents words file place
+-- what `page` answers of a project and a path
+abbrev pub IsPageAnswer : Contents → ℕ → ℕ → List ℕ → List ℕ → ℕ → List ℕ → Type 0
+IsPageAnswer contents before after project path status text =
+    ((front : LoadedFront) × HasFront contents project front × IsPathAnswer path (programs_of front) status text)
+    ⊎ ((status ≡ 3) × IsRefusedBy contents before after project text)
 
--- why there is no page
-abbrev pub HasCause : Contents → ℕ → ℕ → List (List ℕ) → Stop → Type 0
-HasCause contents before after words BadWords = AreBadWords words
-HasCause contents before after words (Refused file reason) = IsRefused contents before after words file reason
-HasCause contents before after words NoMemory = Unit {0}
+-- the line of a project without a mistake
+abbrev pub ok_line : List ℕ
+ok_line = codes "ok" ++ 10 ∷ []
 
--- why the text of a file wasn't read
-abbrev pub HasReadCause : Contents → ℕ → ℕ → ℕ → List ℕ → Stop → Type 0
-HasReadCause contents before after most name (Refused file FileFault) = (file ≡ name) × IsMissing contents before after name
-HasReadCause contents before after most name (Refused file NotBuilt) = (file ≡ name) × HoldsLongFile contents name most
-HasReadCause contents before after most name NoMemory = Unit {0}
-HasReadCause contents before after most name _ = ⊥
+-- the project is loaded
+abbrev pub IsLoaded : Contents → List ℕ → Type 0
+IsLoaded contents project = (front : LoadedFront) × HasFront contents project front
 
--- why a text has no tree
-abbrev pub HasTreeCause : List ℕ → ScriptRefusal → Type 0
-HasTreeCause text (script.Refused (Mistaken place mistake)) = HasNoTree text (place, mistake)
-HasTreeCause text (script.Refused _) = ⊥
-HasTreeCause text script.NoMemory = Unit {0}
+-- what `check` answers of a project
+abbrev pub IsCheckAnswer : Contents → ℕ → ℕ → List ℕ → ℕ → List ℕ → Type 0
+IsCheckAnswer contents before after project status text =
+    ((status ≡ 0) × IsLoaded contents project × (text ≡ ok_line)) ⊎ ((status ≡ 3) × IsRefusedBy contents before after project text)
 
--- why a script has no body
-abbrev pub HasScriptCause : List ℕ → ScriptRefusal → Type 0
-HasScriptCause text (script.Refused NotBuilt) = HasNoParts text
-HasScriptCause text (script.Refused (Mistaken place mistake)) = IsMistaken text (place, mistake)
-HasScriptCause text (script.Refused (Ill place)) = IsIll text place
-HasScriptCause text (script.Refused FileFault) = ⊥
-HasScriptCause text script.NoMemory = Unit {0}
+-- what they answer where the project has these trees
+abbrev pub IsPageOfTrees : Trees → List ℕ → ℕ → List ℕ → Type 0
+IsPageOfTrees trees path status text = IsPathAnswer path (scripts_of trees) status text ⊎ ((status ≡ 3) × IsTypeLine trees text)
 
--- the line of words that ask for no page
-abbrev pub bad_words_line : List ℕ
-bad_words_line = codes "bad words" ++ 10 ∷ []
+abbrev pub IsCheckOfTrees : Trees → ℕ → List ℕ → Type 0
+IsCheckOfTrees trees status text = ((status ≡ 0) × (text ≡ ok_line)) ⊎ ((status ≡ 3) × IsTypeLine trees text)
 
-abbrev pub not_built_line : List ℕ → List ℕ
-not_built_line file = refusal_line file NotBuilt
+-- a refusal, and no other
+abbrev pub IsTheLine : LoadRefusal → ℕ → List ℕ → Type 0
+IsTheLine e status text = (status ≡ 3) × (line_of e ≡ Some text)
 
-abbrev pub mistaken_line : List ℕ → ℕ × Mistake → List ℕ
-mistaken_line file found = refusal_line file (Mistaken found.0 found.1)
-
--- the line of a script that was found to be ill at some place
-abbrev pub IsIllLine : Contents → List (List ℕ) → List ℕ → List ℕ → Type 0
-IsIllLine contents words file line = (place : ℕ) × IsIllScript contents words file place × (line ≡ refusal_line file (Ill place))
-
--- the exit statuses
-abbrev pub IsStatus : ℕ → Type 0
-IsStatus status = (status ≡ 0) ⊎ ((status ≡ 2) ⊎ ((status ≡ 3) ⊎ ((status ≡ 4) ⊎ (status ≡ 7))))
-
--- a whole answer: the body of the page, or the line that says why there is none
-abbrev pub IsAnswer : Contents → ℕ → ℕ → List (List ℕ) → List ℕ → Type 0
-IsAnswer contents before after words bytes =
-    IsPage contents words bytes
-    ⊎ ((AreBadWords words × (bytes ≡ bad_words_line))
-    ⊎ ((file : List ℕ) × (reason : Reason) × IsRefused contents before after words file reason × (bytes ≡ refusal_line file reason)))
-
--- the output is as it was, or holds a front of an answer more
-abbrev pub IsUnfinished : Option (List ℕ) → Option (List ℕ) → (List ℕ → Type 0) → Type 0
-IsUnfinished old new answer = (new ≡ old) ⊎ ((bytes : List ℕ) × answer bytes × GrewByFront old bytes new)
-
--- the files tell what they hold
-abbrev pub AreTold : Contents → Type 0
-AreTold None = ⊥
-AreTold (Some text_at) = Unit {0}
+-- what they answer where a name of the scripts has no binding: that, or an item of an earlier script without a typing
+abbrev pub IsUnboundAnswer : Trees → LoadRefusal → ℕ → List ℕ → Type 0
+IsUnboundAnswer trees e status text = (status ≡ 3) × ((line_of e ≡ Some text) ⊎ IsIllLine trees text)

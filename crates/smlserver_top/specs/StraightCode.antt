@@ -1,5 +1,5 @@
 -- The instructions of straight code: those of which the code of a script's parts consists.
-use Rattle.std.specs.Prelude.{◌≡◌, ℕ, Bool, true, false, List, slice_get, Option, Some}
+use Rattle.std.specs.Prelude.{◌≡◌, ℕ, Bool, true, false, List, slice_get, Some}
 use Rattle.kam_code.specs.declared.instr.Instr.{Instr}
 use Rattle.kam_code.specs.declared.instr.Instr.TheVariants.{Const, Text, Mul, TextFromInt, TextCat, Write, Halt}
 

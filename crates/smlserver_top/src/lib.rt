@@ -1,18 +1,22 @@
-//! The commands of the server, from words to a status.
+//! The commands of the server, from words to a status, and what is said to people of refusals.
 #![tactic(auto)]
 
-mod body;
+mod answer;
+mod commands;
 mod compile;
+mod explanation;
+mod loading;
 mod machine;
 mod page;
 mod part;
-mod project;
+mod place;
 mod refusal;
 mod run;
+mod sentences;
 mod spelling;
 mod straight;
-mod syntax;
-mod typing;
+mod told;
 mod words;
 
+pub use explanation::explain;
 pub use run::run_words;

@@ -1,51 +1,20 @@
-// Why a file is refused, and the line that says so.
-ghost use Rattle.std.specs.Prelude.{◌≡◌, ◌++◌, IfOk, OnOk};
-ghost use Rattle.smlserver_top.specs.Reasons.{lack_name, mistake_name, reason_name, reason_place, refusal_line};
+// The lines that tell why a project isn't loaded.
+ghost use Rattle.std.specs.Prelude.{◌≡◌, IfOk};
+ghost use Rattle.std.specs.Option.{option_map};
+ghost use Rattle.smlserver_top.specs.RefusedLine.{refused_line, full_name};
+ghost use Rattle.smlserver_top.specs.Refusal.{lack_name, without_lack, named_of, line_of};
 
+use script_loader::LoadRefusal;
 use sml_syntax::{Lack, NoMemory, Text};
 use std::alloc::Global;
 
-/// What is wrong with the text of a script.
-#[derive(Clone, Copy, Debug, PartialEq, Eq)]
-pub(crate) enum Mistake {
-    BadByte,
-    OpenComment,
-    OpenString,
-    OpenQuote,
-    WideNumber,
-    Unexpected,
-    TooDeep,
-    Unsupported(Lack),
-    Unbound,
-}
-
-/// Why a file is refused.
-#[derive(Clone, Copy, Debug, PartialEq, Eq)]
-pub(crate) enum Reason {
-    FileFault,
-    NotBuilt,
-    /// The mistake that is met first, and the number of bytes before its place.
-    Mistaken(u64, Mistake),
-    /// No types were found for the item that begins behind so many bytes.
-    Ill(u64),
-}
-
-/// Why a script has no body.
-#[derive(Clone, Copy, Debug, PartialEq, Eq)]
-pub(crate) enum ScriptRefusal {
-    Refused(Reason),
-    NoMemory,
-}
-
-impl From<NoMemory> for ScriptRefusal {
-    ghost use Rattle.smlserver_top.specs.declared.refusal.ScriptRefusal.TheVariants.{NoMemory as no_memory};
-    ghost use Rattle.std.specs.Prelude.{◌≡◌};
-
-    ghost from_gives = { λ _ e. e ≡ no_memory };
-
-    fn from(_: NoMemory) -> ScriptRefusal {
-        ScriptRefusal::NoMemory
-    }
+/// What a refusal names.
+#[derive(Clone, Copy)]
+struct Named<'a> {
+    file: &'a Text,
+    place: u64,
+    name: &'static [u8],
+    lack: Option<Lack>,
 }
 
 fn lack_name(lack: Lack) -> &'static [u8]
@@ -70,59 +39,77 @@ fn lack_name(lack: Lack) -> &'static [u8]
     }
 }
 
-// Adds the name of a mistake, and that of the lack behind it.
-fn push_mistake(line: &mut Vec<u8>, mistake: Mistake) -> Result<(), NoMemory>
-    ensures { OnOk result (line.new.items ≡ line.old.items ++ mistake_name mistake) }
+fn without_lack<'a>(file: &'a Text, place: u64, name: &'static [u8]) -> Option<Named<'a>>
+    ensures { option_map (λ n. (n.file.now, n.place, n.name.now, n.lack)) result ≡ without_lack file.now place name.now }
 {
-    match mistake {
-        Mistake::BadByte => line.extend_from_slice(b"BadByte")?,
-        Mistake::OpenComment => line.extend_from_slice(b"OpenComment")?,
-        Mistake::OpenString => line.extend_from_slice(b"OpenString")?,
-        Mistake::OpenQuote => line.extend_from_slice(b"OpenQuote")?,
-        Mistake::WideNumber => line.extend_from_slice(b"WideNumber")?,
-        Mistake::Unexpected => line.extend_from_slice(b"Unexpected")?,
-        Mistake::TooDeep => line.extend_from_slice(b"TooDeep")?,
-        Mistake::Unsupported(lack) => {
-            line.extend_from_slice(b"Unsupported ")?;
-            line.extend_from_slice(lack_name(lack))?;
-        }
-        Mistake::Unbound => line.extend_from_slice(b"Unbound")?,
-    }
-    Ok(())
+    Some(Named {
+        file,
+        place,
+        name,
+        lack: None,
+    })
 }
 
-// Adds the name of a reason.
-fn push_reason(line: &mut Vec<u8>, reason: Reason) -> Result<(), NoMemory>
-    ensures { OnOk result (line.new.items ≡ line.old.items ++ reason_name reason) }
+fn named_of(refusal: &LoadRefusal) -> Option<Named<'_>>
+    ensures { option_map (λ n. (n.file.now, n.place, n.name.now, n.lack)) result ≡ named_of refusal.now }
 {
-    match reason {
-        Reason::FileFault => line.extend_from_slice(b"FileFault")?,
-        Reason::NotBuilt => line.extend_from_slice(b"NotBuilt")?,
-        Reason::Mistaken(_, mistake) => push_mistake(line, mistake)?,
-        Reason::Ill(_) => line.extend_from_slice(b"Ill")?,
-    }
-    Ok(())
-}
-
-fn place(reason: Reason) -> u64
-    ensures { result ≡ reason_place reason }
-{
-    match reason {
-        Reason::FileFault | Reason::NotBuilt => 0,
-        Reason::Mistaken(place, _) | Reason::Ill(place) => place,
+    match refusal {
+        LoadRefusal::ProjectLine { file, place } => without_lack(file, *place, b"ProjectLine"),
+        LoadRefusal::TwoPaths { file, place } => without_lack(file, *place, b"TwoPaths"),
+        LoadRefusal::DatabaseNames { file, place } => without_lack(file, *place, b"DatabaseNames"),
+        LoadRefusal::TooLarge { file, place } => without_lack(file, *place, b"TooLarge"),
+        LoadRefusal::FileFault { file, place } => without_lack(file, *place, b"FileFault"),
+        LoadRefusal::BadByte { file, place } => without_lack(file, *place, b"BadByte"),
+        LoadRefusal::OpenComment { file, place } => without_lack(file, *place, b"OpenComment"),
+        LoadRefusal::OpenString { file, place } => without_lack(file, *place, b"OpenString"),
+        LoadRefusal::OpenQuote { file, place } => without_lack(file, *place, b"OpenQuote"),
+        LoadRefusal::WideNumber { file, place } => without_lack(file, *place, b"WideNumber"),
+        LoadRefusal::Unsupported { file, place, lack } => Some(Named {
+            file,
+            place: *place,
+            name: b"Unsupported",
+            lack: Some(*lack),
+        }),
+        LoadRefusal::Unexpected { file, place } => without_lack(file, *place, b"Unexpected"),
+        LoadRefusal::TooDeep { file, place } => without_lack(file, *place, b"TooDeep"),
+        LoadRefusal::Unbound { file, place } => without_lack(file, *place, b"Unbound"),
+        LoadRefusal::Ill { file, place } => without_lack(file, *place, b"Ill"),
+        LoadRefusal::InstanceLimit { file, place } => without_lack(file, *place, b"InstanceLimit"),
+        LoadRefusal::CodeFull { file, place } => without_lack(file, *place, b"CodeFull"),
+        LoadRefusal::NoMemory => None,
     }
 }
 
-/// The line of a refusal.
-pub(crate) fn refusal_line(alloc: Global, file: &Text, reason: Reason) -> Result<Text, NoMemory>
-    ensures { IfOk result (λ line. line ≡ refusal_line file.now reason) }
+/// The line of a refusal: a file, a place, a name, and the lack behind it.
+pub(crate) fn refused_line(
+    alloc: Global,
+    file: &Text,
+    place: u64,
+    name: &[u8],
+    lack: Option<Lack>,
+) -> Result<Text, NoMemory>
+    ensures { IfOk result (λ line. line ≡ refused_line file.now place (full_name name.now (option_map lack_name lack))) }
 {
     let mut line = Vec::from_slice(alloc, b"refused ")?;
     line.extend_from_slice(file.as_bytes())?;
     line.push(b' ')?;
-    line.extend_from_slice(place(reason).to_string(alloc)?.as_bytes())?;
+    line.extend_from_slice(place.to_string(alloc)?.as_bytes())?;
     line.push(b' ')?;
-    push_reason(&mut line, reason)?;
+    line.extend_from_slice(name)?;
+    if let Some(lack) = lack {
+        line.push(b' ')?;
+        line.extend_from_slice(lack_name(lack))?;
+    }
     line.push(b'\n')?;
     Ok(Text::from_vec(line))
+}
+
+/// The line of a refusal, unless it is want of memory.
+pub(crate) fn line_of(alloc: Global, refusal: &LoadRefusal) -> Result<Text, NoMemory>
+    ensures { IfOk result (λ line. line_of refusal.now ≡ Some line) }
+{
+    match named_of(refusal) {
+        Some(named) => refused_line(alloc, named.file, named.place, named.name, named.lack),
+        None => Err(NoMemory),
+    }
 }

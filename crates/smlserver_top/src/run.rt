@@ -1,12 +1,15 @@
-// The command that writes a page.
-ghost use Rattle.std.specs.Prelude.{◌≡◌, ◌⊎◌, ◌<◌, ◌≤◌, ℕ, List, map, IfOk};
+// The commands.
+ghost use Rattle.std.specs.Prelude.{◌≡◌, ◌⊎◌, ◌<◌, ◌≤◌, ℕ, List, map, IfOk, Some};
 ghost use Rattle.outside_world.specs.Told.{Rose, grown, GrewByFront};
-ghost use Rattle.smlserver_top.specs.Reasons.{refusal_line};
-ghost use Rattle.smlserver_top.specs.Page.{IsStatus, IsPage, IsNotBuilt, IsMistakenScript, IsIllLine, IsRefused, IsAnswer, IsUnfinished, AreTold, bad_words_line, not_built_line, mistaken_line};
-ghost use Rattle.smlserver_top.specs.Words.{AreBadWords};
+ghost use Rattle.script_loader.specs.Cause.{LoadCause, HasTrees, AreSure};
+ghost use Rattle.script_loader.specs.Front.{IsUnboundIn};
+ghost use Rattle.script_loader.specs.Seen.{Trees};
+ghost use Rattle.script_loader.specs.declared.refusal.LoadRefusal.{LoadRefusal as RefusalSeen};
+ghost use Rattle.smlserver_top.specs.Words.{IsPageCommand, IsCheckCommand, AsksFor, AreBadWords};
+ghost use Rattle.smlserver_top.specs.Page.{no_script_body, ok_line, IsLoaded, IsTheLine, IsPageOfTrees, IsCheckOfTrees, IsUnboundAnswer};
+ghost use Rattle.smlserver_top.specs.Commands.{bad_words_line, IsStatus, IsPage, IsNotFound, IsNotBuilt, IsRefused, IsAnswer, IsText, IsEnd, IsUnfinished};
 
-use crate::page::{Stop, page_body};
-use crate::refusal::refusal_line;
+use crate::commands::words_answer;
 use outside_world::{Clock, Files, Sink, Source, WriteRefusal, write_all};
 use sml_syntax::NoMemory;
 use std::alloc::Global;
@@ -28,34 +31,34 @@ fn finish<K: Sink>(output: &mut K, bytes: &[u8], status: u8) -> u8
     }
 }
 
-// Writes the page that the words ask for, and answers the status.
-fn write_page<F: Files, K: Sink>(alloc: Global, words: &[&str], files: &mut F, output: &mut K) -> u8
-    ensures statuses { IsStatus result }
-    ensures page { result ≡ 0 → (body : List ℕ)
-        × IsPage (F.contents files.old) (map (λ w. w.now) words.now) body
-        × (K.written output.new ≡ grown (K.written output.old) body) }
-    ensures bad_words { result ≡ 2 → AreBadWords (map (λ w. w.now) words.now)
-        × (K.written output.new ≡ grown (K.written output.old) bad_words_line) }
-    ensures refused { result ≡ 3 → (file : List ℕ) × (reason : _)
-        × IsRefused (F.contents files.old) (F.file_count files.old) (F.file_count files.new) (map (λ w. w.now) words.now) file reason
-        × (K.written output.new ≡ grown (K.written output.old) (refusal_line file reason)) }
+// Writes what the words answer, and gives the status.
+fn write_answer<F: Files, K: Sink>(
+    alloc: Global,
+    words: &[&str],
+    files: &mut F,
+    output: &mut K,
+) -> u8
+    ensures told { IsEnd result (λ text. K.written output.new ≡ grown (K.written output.old) text) (IsAnswer (F.contents files.old) (F.file_count files.old) (F.file_count files.new) (map (λ w. w.now) words.now)) }
+    ensures cause_where { AreSure (F.contents files.old) (F.file_count files.old) (F.file_count files.new) → (project : List ℕ) → (e : RefusalSeen) → AsksFor (map (λ w. w.now) words.now) project → LoadCause (F.contents files.old) (F.file_count files.old) (F.file_count files.new) project e
+        → IsEnd result (λ text. K.written output.new ≡ grown (K.written output.old) text) (IsTheLine e) }
+    ensures page_where { AreSure (F.contents files.old) (F.file_count files.old) (F.file_count files.new) → (project : List ℕ) → (path : List ℕ) → (trees : Trees) → IsPageCommand (map (λ w. w.now) words.now) project path → HasTrees (F.contents files.old) project trees
+        → IsEnd result (λ text. K.written output.new ≡ grown (K.written output.old) text) (IsPageOfTrees trees path) }
+    ensures check_where { AreSure (F.contents files.old) (F.file_count files.old) (F.file_count files.new) → (project : List ℕ) → (trees : Trees) → IsCheckCommand (map (λ w. w.now) words.now) project → HasTrees (F.contents files.old) project trees
+        → IsEnd result (λ text. K.written output.new ≡ grown (K.written output.old) text) (IsCheckOfTrees trees) }
+    ensures unbound_where { AreSure (F.contents files.old) (F.file_count files.old) (F.file_count files.new) → (project : List ℕ) → (trees : Trees) → AsksFor (map (λ w. w.now) words.now) project → HasTrees (F.contents files.old) project trees → (e : RefusalSeen) → IsUnboundIn trees e
+        → IsEnd result (λ text. K.written output.new ≡ grown (K.written output.old) text) (IsUnboundAnswer trees e) }
     ensures write_fault { result ≡ 4 → Rose (K.write_count output.old) (K.write_count output.new) }
     ensures unfinished { (result ≡ 4) ⊎ (result ≡ 7) → IsUnfinished (K.written output.old) (K.written output.new)
-        (IsAnswer (F.contents files.old) (F.file_count files.old) (F.file_count files.new) (map (λ w. w.now) words.now)) }
+        (IsText (F.contents files.old) (F.file_count files.old) (F.file_count files.new) (map (λ w. w.now) words.now)) }
     ensures write_count { K.write_count output.old ≤ K.write_count output.new }
     ensures file_count { F.file_count files.old ≤ F.file_count files.new }
     ensures contents { F.contents files.new ≡ F.contents files.old }
     ensures keeps_files { F.kept files.new ≡ F.kept files.old }
     ensures keeps_output { K.kept output.new ≡ K.kept output.old }
 {
-    match page_body(alloc, words, files) {
-        Ok(body) => finish(output, body.as_bytes(), 0),
-        Err(Stop::BadWords) => finish(output, b"bad words\n", 2),
-        Err(Stop::Refused(file, reason)) => match refusal_line(alloc, &file, reason) {
-            Ok(line) => finish(output, line.as_bytes(), 3),
-            Err(NoMemory) => 7,
-        },
-        Err(Stop::NoMemory) => 7,
+    match words_answer(alloc, words, files) {
+        Ok(answer) => finish(output, answer.text.as_bytes(), answer.status),
+        Err(NoMemory) => 7,
     }
 }
 
@@ -70,40 +73,46 @@ pub fn run_words<F: Files, S: Source, K: Sink, C: Clock>(
 ) -> u8
     ensures statuses { IsStatus result }
 
-    // 2: the words ask for no page.
+    // 2: the words are of no command.
     ensures bad_words { result ≡ 2 → AreBadWords (map (λ w. w.now) words.now)
         × (K.written output.new ≡ grown (K.written output.old) bad_words_line) }
     ensures bad_words_only { AreBadWords (map (λ w. w.now) words.now) → (result ≡ 2) ⊎ ((result ≡ 4) ⊎ (result ≡ 7)) }
 
-    // 3: a file is refused, by the line that names it and the reason.
-    ensures refused { result ≡ 3 → (file : List ℕ) × (reason : _)
-        × IsRefused (F.contents files.old) (F.file_count files.old) (F.file_count files.new) (map (λ w. w.now) words.now) file reason
-        × (K.written output.new ≡ grown (K.written output.old) (refusal_line file reason)) }
+    // 3: the project isn't loaded, by the line that names the file, the place and the refusal; or its script isn't run.
+    ensures refused { result ≡ 3 → (line : List ℕ)
+        × (IsRefused (F.contents files.old) (F.file_count files.old) (F.file_count files.new) (map (λ w. w.now) words.now) line
+        ⊎ IsNotBuilt (F.contents files.old) (map (λ w. w.now) words.now) line)
+        × (K.written output.new ≡ grown (K.written output.old) line) }
 
-    // Where the files tell what they hold, a file that isn't of its form is refused as such, unless a read failed or no types
-    // were found for its script.
-    ensures not_built { AreTold (F.contents files.old) → (file : List ℕ)
-        → IsNotBuilt (F.contents files.old) (map (λ w. w.now) words.now) file
-        → ((result ≡ 3) × ((K.written output.new ≡ grown (K.written output.old) (not_built_line file))
-        ⊎ (((line : List ℕ) × IsIllLine (F.contents files.old) (map (λ w. w.now) words.now) file line × (K.written output.new ≡ grown (K.written output.old) line))
-        ⊎ Rose (F.file_count files.old) (F.file_count files.new))))
-        ⊎ ((result ≡ 4) ⊎ (result ≡ 7)) }
+    // Where the files tell what they hold and no read fails, what refuses the project up to its trees is told, and nothing else.
+    ensures cause_where { AreSure (F.contents files.old) (F.file_count files.old) (F.file_count files.new) → (project : List ℕ) → (e : RefusalSeen) → AsksFor (map (λ w. w.now) words.now) project → LoadCause (F.contents files.old) (F.file_count files.old) (F.file_count files.new) project e
+        → IsEnd result (λ text. K.written output.new ≡ grown (K.written output.old) text) (IsTheLine e) }
 
-    // So is a script that has no tokens or no tree, or in which something is unbound: with the mistake that is met first, and its place.
-    ensures mistaken { AreTold (F.contents files.old) → (file : List ℕ) → (found : _)
-        → IsMistakenScript (F.contents files.old) (map (λ w. w.now) words.now) file found
-        → ((result ≡ 3) × ((K.written output.new ≡ grown (K.written output.old) (mistaken_line file found)) ⊎ Rose (F.file_count files.old) (F.file_count files.new)))
-        ⊎ ((result ≡ 4) ⊎ (result ≡ 7)) }
+    // So is the first name without a binding, unless no types were found for an item of an earlier script.
+    ensures unbound_where { AreSure (F.contents files.old) (F.file_count files.old) (F.file_count files.new) → (project : List ℕ) → (trees : Trees) → AsksFor (map (λ w. w.now) words.now) project → HasTrees (F.contents files.old) project trees → (e : RefusalSeen) → IsUnboundIn trees e
+        → IsEnd result (λ text. K.written output.new ≡ grown (K.written output.old) text) (IsUnboundAnswer trees e) }
+
+    // And by the trees of the project the script under the path decides which of 0, 1 and 3 it is, unless a script isn't typed.
+    ensures page_where { AreSure (F.contents files.old) (F.file_count files.old) (F.file_count files.new) → (project : List ℕ) → (path : List ℕ) → (trees : Trees) → IsPageCommand (map (λ w. w.now) words.now) project path → HasTrees (F.contents files.old) project trees
+        → IsEnd result (λ text. K.written output.new ≡ grown (K.written output.old) text) (IsPageOfTrees trees path) }
+    ensures check_where { AreSure (F.contents files.old) (F.file_count files.old) (F.file_count files.new) → (project : List ℕ) → (trees : Trees) → IsCheckCommand (map (λ w. w.now) words.now) project → HasTrees (F.contents files.old) project trees
+        → IsEnd result (λ text. K.written output.new ≡ grown (K.written output.old) text) (IsCheckOfTrees trees) }
 
     // 4 and 7: a write failed, or memory ran out, and at most a front of the answer is written.
     ensures write_fault { result ≡ 4 → Rose (K.write_count output.old) (K.write_count output.new) }
     ensures unfinished { (result ≡ 4) ⊎ (result ≡ 7) → IsUnfinished (K.written output.old) (K.written output.new)
-        (IsAnswer (F.contents files.old) (F.file_count files.old) (F.file_count files.new) (map (λ w. w.now) words.now)) }
+        (IsText (F.contents files.old) (F.file_count files.old) (F.file_count files.new) (map (λ w. w.now) words.now)) }
 
-    // 0: the output grew by the body of the page of the files.
-    ensures page { result ≡ 0 → (body : List ℕ)
-        × IsPage (F.contents files.old) (map (λ w. w.now) words.now) body
+    // 1: the project is loaded and has no script under the path.
+    ensures not_found { result ≡ 1 → IsNotFound (F.contents files.old) (map (λ w. w.now) words.now)
+        × (K.written output.new ≡ grown (K.written output.old) no_script_body) }
+
+    // 0: the output grew by the body of the page of the files, or by the line of a project that is loaded.
+    ensures page { (project : List ℕ) → (path : List ℕ) → IsPageCommand (map (λ w. w.now) words.now) project path → result ≡ 0 → (body : List ℕ)
+        × IsPage (F.contents files.old) project path body
         × (K.written output.new ≡ grown (K.written output.old) body) }
+    ensures checked { (project : List ℕ) → IsCheckCommand (map (λ w. w.now) words.now) project → result ≡ 0
+        → IsLoaded (F.contents files.old) project × (K.written output.new ≡ grown (K.written output.old) ok_line) }
 
     // What stays as it was: no count falls, and neither the input nor the clock is read.
     ensures write_count { K.write_count output.old ≤ K.write_count output.new }
@@ -114,5 +123,5 @@ pub fn run_words<F: Files, S: Source, K: Sink, C: Clock>(
     ensures input { input.new ≡ input.old }
     ensures clock { clock.new ≡ clock.old }
 {
-    write_page(alloc, words, files, output)
+    write_answer(alloc, words, files, output)
 }

@@ -1,5 +1,6 @@
 use Rattle.std.proofs.Common.{◌≡◌, ◌≤◌, [], length, drop, map}
-use Rattle.db_text.specs.Reading.{run, left_of}
+use Rattle.sml_syntax.specs.StatementReading.{run}
+use Rattle.db_text.specs.Reading.{left_of}
 use Rattle.db_text.proofs.forms.read_parts.Given as goal
 
 -- what runs from here with the other parts runs from the start

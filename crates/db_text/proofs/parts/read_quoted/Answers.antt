@@ -1,5 +1,5 @@
 use Rattle.std.proofs.Common.{◌≡◌, ◌∷◌, ◌++◌, [], ◌+◌, ap, sym, ◌∙◌, drop, arith}
-use Rattle.db_text.specs.Reading.{run}
+use Rattle.sml_syntax.specs.StatementReading.{run}
 use Rattle.db_text.proofs.Scans.{inside_at, shut_over}
 use Rattle.db_text.proofs.parts.read_quoted.Goals as goal
 

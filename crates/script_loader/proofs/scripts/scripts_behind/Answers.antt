@@ -6,5 +6,5 @@ pub returns : goal.returns
 returns c =
     let files = c.args.files.now in
     let trees = c.args.trees.now in
-    let over = no_scripts c.args.decs.now.items files trees c.loop-i.i (subst (λ n. n ≤ c.loop-i.i) c.min-i-end.ensures c.loop-i-test.false) in
+    let over = no_scripts c.args.base.now files trees c.loop-i.i (subst (λ n. n ≤ c.loop-i.i) c.min-i-end.ensures c.loop-i-test.false) in
     sym (append-nil c.loop-i.scripts.items) ∙ ap (λ l. c.loop-i.scripts.items ++ l) (sym over) ∙ c.loop-i.invariant

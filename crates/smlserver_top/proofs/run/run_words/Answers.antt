@@ -1,13 +1,25 @@
-use Rattle.outside_world.specs.Told.{grown}
 use Rattle.std.proofs.Common.{◌≡◌}
-use Rattle.smlserver_top.proofs.Refusals.{bad_words_end, unbuilt_ends, mistaken_ends}
+use Rattle.outside_world.specs.Told.{grown}
+use Rattle.smlserver_top.proofs.EndLaws.{end_status, bad_words, bad_words_only, refused, not_found, page, checked}
 use Rattle.smlserver_top.proofs.run.run_words.Goals as goal
 
+pub returns-clause-statuses : goal.returns-clause-statuses
+returns-clause-statuses g c = end_status _ _ _ _ _ (λ text. g.K.Sink.written c.write_answer.new.output ≡ grown (g.K.Sink.written c.args.output.now) text) c.write_answer.ensures.told
+
+pub returns-clause-bad_words : goal.returns-clause-bad_words
+returns-clause-bad_words g c = bad_words _ _ _ _ _ (λ text. g.K.Sink.written c.write_answer.new.output ≡ grown (g.K.Sink.written c.args.output.now) text) c.write_answer.ensures.told
+
 pub returns-clause-bad_words_only : goal.returns-clause-bad_words_only
-returns-clause-bad_words_only g c = bad_words_end _ _ _ _ _ (λ line. g.K.Sink.written c.write_page.new.output ≡ grown (g.K.Sink.written c.args.output.now) line) c.write_page.ensures.statuses c.write_page.ensures.page c.write_page.ensures.refused
+returns-clause-bad_words_only g c = bad_words_only _ _ _ _ _ (λ text. g.K.Sink.written c.write_answer.new.output ≡ grown (g.K.Sink.written c.args.output.now) text) c.write_answer.ensures.told
 
-pub returns-clause-not_built : goal.returns-clause-not_built
-returns-clause-not_built g c told file bad = unbuilt_ends _ _ _ _ _ (λ line. g.K.Sink.written c.write_page.new.output ≡ grown (g.K.Sink.written c.args.output.now) line) file c.write_page.ensures.statuses c.write_page.ensures.page c.write_page.ensures.bad_words c.write_page.ensures.refused told bad
+pub returns-clause-refused : goal.returns-clause-refused
+returns-clause-refused g c = refused _ _ _ _ _ (λ text. g.K.Sink.written c.write_answer.new.output ≡ grown (g.K.Sink.written c.args.output.now) text) c.write_answer.ensures.told
 
-pub returns-clause-mistaken : goal.returns-clause-mistaken
-returns-clause-mistaken g c told file found bad = mistaken_ends _ _ _ _ _ (λ line. g.K.Sink.written c.write_page.new.output ≡ grown (g.K.Sink.written c.args.output.now) line) file found c.write_page.ensures.statuses c.write_page.ensures.page c.write_page.ensures.bad_words c.write_page.ensures.refused told bad
+pub returns-clause-not_found : goal.returns-clause-not_found
+returns-clause-not_found g c = not_found _ _ _ _ _ (λ text. g.K.Sink.written c.write_answer.new.output ≡ grown (g.K.Sink.written c.args.output.now) text) c.write_answer.ensures.told
+
+pub returns-clause-page : goal.returns-clause-page
+returns-clause-page g c project path = page _ _ _ _ _ (λ text. g.K.Sink.written c.write_answer.new.output ≡ grown (g.K.Sink.written c.args.output.now) text) project path c.write_answer.ensures.told
+
+pub returns-clause-checked : goal.returns-clause-checked
+returns-clause-checked g c project = checked _ _ _ _ _ (λ text. g.K.Sink.written c.write_answer.new.output ≡ grown (g.K.Sink.written c.args.output.now) text) project c.write_answer.ensures.told

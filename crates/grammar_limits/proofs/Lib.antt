@@ -1,0 +1,15 @@
+pub mod Fits
+pub mod Nodes
+pub mod Parts
+pub mod Functions
+pub mod Risen
+pub mod Items
+pub mod Lowest
+pub mod Found
+pub mod Owned
+pub mod Swapped
+pub mod Nestings
+pub mod Datatypes
+pub mod FirstLacks
+pub mod Shapes
+pub mod LookBack

@@ -1,0 +1,5 @@
+pub mod Grows
+pub mod Laws
+pub mod Owns
+pub mod Nested
+pub mod Finds

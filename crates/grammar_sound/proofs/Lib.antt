@@ -1,0 +1,15 @@
+pub mod Seen
+pub mod Sem
+pub mod Fine
+pub mod Types
+pub mod Patterns
+pub mod Expressions
+pub mod Rests
+pub mod Enclosed
+pub mod Definitions
+pub mod Declarations
+pub mod Functions
+pub mod Clauses
+pub mod Finishes
+pub mod Sound
+pub mod Viable

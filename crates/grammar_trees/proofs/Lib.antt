@@ -1,0 +1,17 @@
+pub mod Steps
+pub mod Words
+pub mod Telling
+pub mod Types
+pub mod Patterns
+pub mod Infix
+pub mod ExpEnds
+pub mod Expressions
+pub mod DecEnding
+pub mod Tails
+pub mod Definitions
+pub mod Declarations
+pub mod Functions
+pub mod Items
+pub mod Runs
+pub mod Built
+pub mod Complete

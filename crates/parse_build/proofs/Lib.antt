@@ -1,0 +1,3 @@
+pub mod Curried
+pub mod Folds
+pub mod Items

@@ -1,0 +1,409 @@
+-- What is printed of trees goes wherever expressions are read, from what is printed of their parts.
+use Rattle.std.proofs.Common.{◌≡◌, ℕ, ℤ, zero, suc, List, [], ◌∷◌, ◌++◌, length, Bool, true, false, Option, Some, None, refl, ap, sym, ◌∙◌, subst, map, arith, append_assoc, append-nil}
+use Rattle.std.specs.Prelude.{codes, flat_map, cond, nat_lt}
+use Rattle.std.proofs.lemmas.Bool.{lt-ltb}
+use Rattle.sml_syntax.specs.declared.token.Token.{Token}
+use Rattle.sml_syntax.specs.declared.token.TokenForm.TheVariants as f
+use Rattle.sml_syntax.specs.declared.tree.Span.{Span}
+use Rattle.sml_syntax.specs.declared.tree.Ty.{Ty}
+use Rattle.sml_syntax.specs.declared.tree.TyForm.TheVariants as t
+use Rattle.sml_syntax.specs.declared.tree.Pat.{Pat}
+use Rattle.sml_syntax.specs.declared.tree.PatForm.TheVariants as p
+use Rattle.sml_syntax.specs.declared.tree.Rule.{Rule}
+use Rattle.sml_syntax.specs.declared.tree.Piece.{Piece}
+use Rattle.sml_syntax.specs.declared.tree.Piece.TheVariants as piece
+use Rattle.sml_syntax.specs.declared.tree.Exp.{Exp}
+use Rattle.sml_syntax.specs.declared.tree.ExpForm.TheVariants as e
+use Rattle.sml_syntax.specs.declared.tree.Dec.{Dec}
+use Rattle.sml_syntax.specs.declared.tree.DecForm.TheVariants as d
+use Rattle.sml_syntax.specs.Programs.{Each}
+use Rattle.sml_syntax.specs.Layers.{form_of_pat}
+use Rattle.sml_syntax.specs.Nodes.{exp_at, pat_at, ty_at, dec_at, rule_of, clause_pat, curried, function_rules, it_dec}
+use Rattle.print_laws.specs.Bytes.{Before, Fresh, Behind_text, Behind_name, Shape, Outside, Quoted, Inside, shape_around, Stands, MayFollow, Fits, fits_quote, fits_inner_quote, fits_anti_to, fits_text, fits_anti, fits_anti_from, fits_quote_to}
+use Rattle.print_laws.specs.Printing.{Forms, Ink, RuleInk, in_parens, parted, head_forms, name_forms, is_lone, type_name, con_forms, starred, ty_forms, pat_forms, exp_forms, exp_ink, rule_ink, rule_forms, match_forms, exps_forms, anti_forms, plain_forms, piece_forms, dec_forms, clause_of, one_clause, several_clause, patterns_in, is_number, inner_clauses, function_forms, bind_forms, vars_forms, abbrev_forms, argument_forms, con_def_forms, data_forms}
+use Rattle.print_laws.specs.ReadBack.{IsFine}
+use Rattle.print_laws.specs.Spelt.{SpeltAnti, IsSpelt, Parts, Starts, Followed}
+use Rattle.print_laws.proofs.Lists.{parted_map, flat_map_map}
+use Rattle.print_laws.proofs.Made.{ink-Int, ink-Char, ink-Str, ink-Name, ink-Unit, ink-Tuple, ink-List, ink-Seq, ink-App, ink-Let, ink-Fn, ink-Case, ink-Handle, ink-Raise, ink-If, ink-Both, ink-Either, ink-Quote, ink-Typed, ink-rule, pat-Any, pat-Int, pat-Char, pat-Str, pat-Unit, pat-Name, pat-Tuple, pat-List, pat-Con, pat-Typed, form-Tuple, ty-Var, ty-Con, ty-Tuple, ty-Arrow, piece-Plain, piece-Anti, dec-Val, dec-ValRec, dec-Abbrev, dec-DataDef, dec-ExnDef, dec-Local}
+use Rattle.print_laws.proofs.Claims.{each_map}
+use Rattle.print_laws.proofs.FunClaims.{curried_ink, curried_number}
+use Rattle.print_laws.proofs.FitForms.{Reads, Goes, Steady, none, then, one, join, parens, unit, between, row, each_of, open_list, close_list, comma, semicolon, wild, colon, arrow, bar, to, equals, star, word_let, word_in, word_end, word_fn, word_case, word_of, word_handle, word_raise, word_if, word_then, word_else, word_andalso, word_orelse, word_val, word_fun, word_and, word_type, word_datatype, word_exception, word_local, headed, expressed, it_headed}
+
+-- Types
+
+abbrev pub TyGoes : Ty → Type 0
+TyGoes x = Goes (ty_forms x)
+
+pub var_goes : (s : Span) (name : List ℕ) → ((ends : Bool) → Stands ends (f.TyVar name)) → TyGoes (ty_at s (t.Var name))
+var_goes s name k = subst Goes (sym (ty-Var s name)) (one (f.TyVar name) (record { stands = k; keeps = λ n. refl }))
+
+con_row : (name : List ℕ) (xs : List Forms) → Steady (type_name name) → Each Goes xs → Goes (con_forms name xs)
+con_row name [] k h = one (type_name name) k
+con_row name (x ∷ []) k h = join x (type_name name ∷ []) h.0 (one (type_name name) k)
+con_row name (x ∷ y ∷ ys) k h =
+    let p : Forms = parted (codes ",") (λ t. t) (x ∷ y ∷ ys) in
+    subst Goes (append_assoc (f.Mark (codes "(") ∷ p) (f.Mark (codes ")") ∷ []) (type_name name ∷ []))
+    (join (in_parens p) (type_name name ∷ []) (parens p (between (codes ",") (λ t. t) (x ∷ y ∷ ys) comma h)) (one (type_name name) k))
+
+pub con_goes : (s : Span) (name : List ℕ) (xs : List Ty) → Steady (type_name name) → Each TyGoes xs → TyGoes (ty_at s (t.Con name xs))
+con_goes s name xs k h = subst Goes (sym (ty-Con s name xs)) (con_row name (map ty_forms xs) k (each_of ty_forms Goes xs h))
+
+star_row : (xs : List Forms) → Each Goes xs → Goes (starred xs)
+star_row [] h = none
+star_row (x ∷ xs) h = join x (flat_map (λ t. f.Name (codes "*") ∷ t) xs) h.0 (row (λ t. f.Name (codes "*") ∷ t) xs (each_map Goes (λ t. Goes (f.Name (codes "*") ∷ t)) (λ t k. then (f.Name (codes "*")) t star k) xs h.1))
+
+pub ty_tuple_goes : (s : Span) (xs : List Ty) → Each TyGoes xs → TyGoes (ty_at s (t.Tuple xs))
+ty_tuple_goes s xs h = subst Goes (sym (ty-Tuple s xs)) (parens (starred (map ty_forms xs)) (star_row (map ty_forms xs) (each_of ty_forms Goes xs h)))
+
+pub arrow_goes : (s : Span) (x y : Ty) → TyGoes x → TyGoes y → TyGoes (ty_at s (t.Arrow x y))
+arrow_goes s x y a b = subst Goes (sym (ty-Arrow s x y)) (parens (ty_forms x ++ f.Mark (codes "->") ∷ ty_forms y) (join (ty_forms x) (f.Mark (codes "->") ∷ ty_forms y) a (then (f.Mark (codes "->")) (ty_forms y) to b)))
+
+-- Patterns
+
+abbrev pub PatGoes : Pat → Type 0
+PatGoes x = Goes (pat_forms x)
+
+pub any_goes : (s : Span) → PatGoes (pat_at s p.Any)
+any_goes s = subst Goes (sym (pat-Any s)) (one (f.Mark (codes "_")) wild)
+
+pub pat_int_goes : (s : Span) (n : ℤ) → ((ends : Bool) → Stands ends (f.Int n)) → PatGoes (pat_at s (p.Int n))
+pat_int_goes s n k = subst Goes (sym (pat-Int s n)) (one (f.Int n) (record { stands = k; keeps = λ m. refl }))
+
+pub pat_char_goes : (s : Span) (b : ℕ) → ((ends : Bool) → Stands ends (f.Char b)) → PatGoes (pat_at s (p.Char b))
+pat_char_goes s b k = subst Goes (sym (pat-Char s b)) (one (f.Char b) (record { stands = k; keeps = λ m. refl }))
+
+pub pat_str_goes : (s : Span) (w : List ℕ) → ((ends : Bool) → Stands ends (f.Str w)) → PatGoes (pat_at s (p.Str w))
+pat_str_goes s w k = subst Goes (sym (pat-Str s w)) (one (f.Str w) (record { stands = k; keeps = λ m. refl }))
+
+pub pat_unit_goes : (s : Span) → PatGoes (pat_at s p.Unit)
+pat_unit_goes s = subst Goes (sym (pat-Unit s)) unit
+
+pub pat_name_goes : (s : Span) (name : List ℕ) → Goes (head_forms name) → PatGoes (pat_at s (p.Name name))
+pat_name_goes s name k = subst Goes (sym (pat-Name s name)) k
+
+pub pat_tuple_goes : (s : Span) (xs : List Pat) → Each PatGoes xs → PatGoes (pat_at s (p.Tuple xs))
+pat_tuple_goes s xs h = subst Goes (sym (pat-Tuple s xs)) (parens (parted (codes ",") (λ q. q) (map pat_forms xs)) (between (codes ",") (λ q. q) (map pat_forms xs) comma (each_of pat_forms Goes xs h)))
+
+pub pat_list_goes : (s : Span) (xs : List Pat) → Each PatGoes xs → PatGoes (pat_at s (p.List xs))
+pat_list_goes s xs h = subst Goes (sym (pat-List s xs))
+    (join (f.Mark (codes "[") ∷ parted (codes ",") (λ q. q) (map pat_forms xs)) (f.Mark (codes "]") ∷ [])
+    (then (f.Mark (codes "[")) (parted (codes ",") (λ q. q) (map pat_forms xs)) open_list (between (codes ",") (λ q. q) (map pat_forms xs) comma (each_of pat_forms Goes xs h)))
+    (one (f.Mark (codes "]")) close_list))
+
+pub pat_con_goes : (s : Span) (name : List ℕ) (x : Pat) → Goes (head_forms name) → PatGoes x → PatGoes (pat_at s (p.Con name x))
+pat_con_goes s name x k a = subst Goes (sym (pat-Con s name x)) (parens (head_forms name ++ pat_forms x) (join (head_forms name) (pat_forms x) k a))
+
+pub pat_typed_goes : (s : Span) (x : Pat) (t : Ty) → PatGoes x → TyGoes t → PatGoes (pat_at s (p.Typed x t))
+pat_typed_goes s x t a b = subst Goes (sym (pat-Typed s x t)) (parens (pat_forms x ++ f.Mark (codes ":") ∷ ty_forms t) (join (pat_forms x) (f.Mark (codes ":") ∷ ty_forms t) a (then (f.Mark (codes ":")) (ty_forms t) colon b)))
+
+-- Expressions
+
+-- one that isn't a name which can only stand behind `^`
+abbrev pub InkGoes : Ink → Type 0
+InkGoes i = Goes i.forms × (i.lone ≡ None)
+
+abbrev pub ExpGoes : Exp → Type 0
+ExpGoes x = InkGoes (exp_ink x)
+
+made : (x : Exp) (i : Ink) → exp_ink x ≡ i → i.lone ≡ None → Goes i.forms → ExpGoes x
+made x i h l g = subst InkGoes (sym h) (g, l)
+
+ink_goes : (i : Ink) → InkGoes i → Goes i.forms
+ink_goes i k = k.0
+
+inks_go : (xs : List Exp) → Each ExpGoes xs → Each (λ (i : Ink). Goes i.forms) (map exp_ink xs)
+inks_go xs h = each_map InkGoes (λ (i : Ink). Goes i.forms) ink_goes (map exp_ink xs) (each_of exp_ink InkGoes xs h)
+
+exps_go : (m : List ℕ) (xs : List Exp) → Steady (f.Mark m) → Each ExpGoes xs → Goes (exps_forms m (map exp_ink xs))
+exps_go m xs k h = between m (λ (i : Ink). i.forms) (map exp_ink xs) k (inks_go xs h)
+
+pub int_goes : (s : Span) (n : ℤ) → ((ends : Bool) → Stands ends (f.Int n)) → ExpGoes (exp_at s (e.Int n))
+int_goes s n k = made (exp_at s (e.Int n)) _ (ink-Int s n) refl (one (f.Int n) (record { stands = k; keeps = λ m. refl }))
+
+pub char_goes : (s : Span) (b : ℕ) → ((ends : Bool) → Stands ends (f.Char b)) → ExpGoes (exp_at s (e.Char b))
+char_goes s b k = made (exp_at s (e.Char b)) _ (ink-Char s b) refl (one (f.Char b) (record { stands = k; keeps = λ m. refl }))
+
+pub str_goes : (s : Span) (w : List ℕ) → ((ends : Bool) → Stands ends (f.Str w)) → ExpGoes (exp_at s (e.Str w))
+str_goes s w k = made (exp_at s (e.Str w)) _ (ink-Str s w) refl (one (f.Str w) (record { stands = k; keeps = λ m. refl }))
+
+pub name_goes : (s : Span) (name : List ℕ) → is_lone name ≡ false → Goes (name_forms name) → ExpGoes (exp_at s (e.Name name))
+name_goes s name l k = made (exp_at s (e.Name name)) _ (ink-Name s name) (ap (λ b. cond b (Some name) None) l) k
+
+pub unit_goes : (s : Span) → ExpGoes (exp_at s e.Unit)
+unit_goes s = made (exp_at s e.Unit) _ (ink-Unit s) refl unit
+
+pub tuple_goes : (s : Span) (xs : List Exp) → Each ExpGoes xs → ExpGoes (exp_at s (e.Tuple xs))
+tuple_goes s xs h = made (exp_at s (e.Tuple xs)) _ (ink-Tuple s xs) refl (parens (exps_forms (codes ",") (map exp_ink xs)) (exps_go (codes ",") xs comma h))
+
+pub seq_goes : (s : Span) (xs : List Exp) → Each ExpGoes xs → ExpGoes (exp_at s (e.Seq xs))
+seq_goes s xs h = made (exp_at s (e.Seq xs)) _ (ink-Seq s xs) refl (parens (exps_forms (codes ";") (map exp_ink xs)) (exps_go (codes ";") xs semicolon h))
+
+pub list_goes : (s : Span) (xs : List Exp) → Each ExpGoes xs → ExpGoes (exp_at s (e.List xs))
+list_goes s xs h = made (exp_at s (e.List xs)) _ (ink-List s xs) refl
+    (join (f.Mark (codes "[") ∷ exps_forms (codes ",") (map exp_ink xs)) (f.Mark (codes "]") ∷ [])
+    (then (f.Mark (codes "[")) (exps_forms (codes ",") (map exp_ink xs)) open_list (exps_go (codes ",") xs comma h)) (one (f.Mark (codes "]")) close_list))
+
+pub app_goes : (s : Span) (x y : Exp) → ExpGoes x → ExpGoes y → ExpGoes (exp_at s (e.App x y))
+app_goes s x y a b = made (exp_at s (e.App x y)) _ (ink-App s x y) refl (parens (exp_forms x ++ exp_forms y) (join (exp_forms x) (exp_forms y) a.0 b.0))
+
+pub infix_goes : (s r : Span) (name : List ℕ) (x y : Exp) → ExpGoes (exp_at r (e.Name name)) → ExpGoes x → ExpGoes y → ExpGoes (exp_at s (e.App (exp_at r (e.Name name)) (exp_at s (e.Tuple (x ∷ y ∷ [])))))
+infix_goes s r name x y k a b = app_goes s (exp_at r (e.Name name)) (exp_at s (e.Tuple (x ∷ y ∷ []))) k (tuple_goes s (x ∷ y ∷ []) (a, (b, tt)))
+
+word_between : (m : List ℕ) (x y : Forms) → Steady (f.Mark m) → Goes x → Goes y → Goes (x ++ f.Mark m ∷ y)
+word_between m x y k a b = join x (f.Mark m ∷ y) a (then (f.Mark m) y k b)
+
+pub both_goes : (s : Span) (x y : Exp) → ExpGoes x → ExpGoes y → ExpGoes (exp_at s (e.Both x y))
+both_goes s x y a b = made (exp_at s (e.Both x y)) _ (ink-Both s x y) refl (parens (exp_forms x ++ f.Mark (codes "andalso") ∷ exp_forms y) (word_between (codes "andalso") (exp_forms x) (exp_forms y) word_andalso a.0 b.0))
+
+pub either_goes : (s : Span) (x y : Exp) → ExpGoes x → ExpGoes y → ExpGoes (exp_at s (e.Either x y))
+either_goes s x y a b = made (exp_at s (e.Either x y)) _ (ink-Either s x y) refl (parens (exp_forms x ++ f.Mark (codes "orelse") ∷ exp_forms y) (word_between (codes "orelse") (exp_forms x) (exp_forms y) word_orelse a.0 b.0))
+
+pub typed_goes : (s : Span) (x : Exp) (t : Ty) → ExpGoes x → TyGoes t → ExpGoes (exp_at s (e.Typed x t))
+typed_goes s x t a b = made (exp_at s (e.Typed x t)) _ (ink-Typed s x t) refl (parens (exp_forms x ++ f.Mark (codes ":") ∷ ty_forms t) (word_between (codes ":") (exp_forms x) (ty_forms t) colon a.0 b))
+
+pub raise_goes : (s : Span) (x : Exp) → ExpGoes x → ExpGoes (exp_at s (e.Raise x))
+raise_goes s x a = made (exp_at s (e.Raise x)) _ (ink-Raise s x) refl (parens (f.Mark (codes "raise") ∷ exp_forms x) (then (f.Mark (codes "raise")) (exp_forms x) word_raise a.0))
+
+pub if_goes : (s : Span) (x y z : Exp) → ExpGoes x → ExpGoes y → ExpGoes z → ExpGoes (exp_at s (e.If x y z))
+if_goes s x y z a b c = made (exp_at s (e.If x y z)) _ (ink-If s x y z) refl
+    (parens (f.Mark (codes "if") ∷ exp_forms x ++ f.Mark (codes "then") ∷ exp_forms y ++ f.Mark (codes "else") ∷ exp_forms z)
+    (word_between (codes "else") (f.Mark (codes "if") ∷ exp_forms x ++ f.Mark (codes "then") ∷ exp_forms y) (exp_forms z) word_else
+    (word_between (codes "then") (f.Mark (codes "if") ∷ exp_forms x) (exp_forms y) word_then (then (f.Mark (codes "if")) (exp_forms x) word_if a.0) b.0) c.0))
+
+-- rules
+abbrev pub RuleInkGoes : RuleInk → Type 0
+RuleInkGoes r = PatGoes r.pat × InkGoes r.body
+
+abbrev pub RuleGoes : Rule → Type 0
+RuleGoes r = RuleInkGoes (rule_ink r)
+
+pub rule_goes : (x : Pat) (b : Exp) → PatGoes x → ExpGoes b → RuleGoes (rule_of x b)
+rule_goes x b k c = subst RuleInkGoes (sym (ink-rule x b)) (k, c)
+
+match_goes : (rs : List Rule) → Each RuleGoes rs → Goes (match_forms (map rule_ink rs))
+match_goes rs h = between (codes "|") rule_forms (map rule_ink rs) bar
+    (each_map RuleInkGoes (λ (r : RuleInk). Goes (rule_forms r)) (λ (r : RuleInk) k. word_between (codes "=>") (pat_forms r.pat) r.body.forms arrow k.0 k.1.0) (map rule_ink rs) (each_of rule_ink RuleInkGoes rs h))
+
+pub fn_goes : (s : Span) (rs : List Rule) → Each RuleGoes rs → ExpGoes (exp_at s (e.Fn rs))
+fn_goes s rs h = made (exp_at s (e.Fn rs)) _ (ink-Fn s rs) refl (parens (f.Mark (codes "fn") ∷ match_forms (map rule_ink rs)) (then (f.Mark (codes "fn")) (match_forms (map rule_ink rs)) word_fn (match_goes rs h)))
+
+pub case_goes : (s : Span) (x : Exp) (rs : List Rule) → ExpGoes x → Each RuleGoes rs → ExpGoes (exp_at s (e.Case x rs))
+case_goes s x rs a h = made (exp_at s (e.Case x rs)) _ (ink-Case s x rs) refl
+    (parens (f.Mark (codes "case") ∷ exp_forms x ++ f.Mark (codes "of") ∷ match_forms (map rule_ink rs))
+    (word_between (codes "of") (f.Mark (codes "case") ∷ exp_forms x) (match_forms (map rule_ink rs)) word_of (then (f.Mark (codes "case")) (exp_forms x) word_case a.0) (match_goes rs h)))
+
+pub handle_goes : (s : Span) (x : Exp) (rs : List Rule) → ExpGoes x → Each RuleGoes rs → ExpGoes (exp_at s (e.Handle x rs))
+handle_goes s x rs a h = made (exp_at s (e.Handle x rs)) _ (ink-Handle s x rs) refl
+    (parens (exp_forms x ++ f.Mark (codes "handle") ∷ match_forms (map rule_ink rs)) (word_between (codes "handle") (exp_forms x) (match_forms (map rule_ink rs)) word_handle a.0 (match_goes rs h)))
+
+-- Declarations
+
+abbrev pub DecGoes : Dec → Type 0
+DecGoes x = Goes (dec_forms x)
+
+decs_go : (ds : List Dec) → Each DecGoes ds → Goes (flat_map (λ d. d) (map dec_forms ds))
+decs_go ds h = row (λ d. d) (map dec_forms ds) (each_of dec_forms Goes ds h)
+
+-- a word, declarations, `in`, what stands there, and `end`
+in_end : (m : List ℕ) (x y : Forms) → Steady (f.Mark m) → Goes x → Goes y → Goes ((f.Mark m ∷ x) ++ f.Mark (codes "in") ∷ y ++ f.Mark (codes "end") ∷ [])
+in_end m x y k a b = word_between (codes "end") ((f.Mark m ∷ x) ++ f.Mark (codes "in") ∷ y) [] word_end (word_between (codes "in") (f.Mark m ∷ x) y word_in (then (f.Mark m) x k a) b) none
+
+pub let_goes : (s : Span) (ds : List Dec) (xs : List Exp) → Each DecGoes ds → Each ExpGoes xs → ExpGoes (exp_at s (e.Let ds xs))
+let_goes s ds xs h g = made (exp_at s (e.Let ds xs)) _ (ink-Let s ds xs) refl (in_end (codes "let") (flat_map (λ d. d) (map dec_forms ds)) (exps_forms (codes ";") (map exp_ink xs)) word_let (decs_go ds h) (exps_go (codes ";") xs semicolon g))
+
+pub local_goes : (s : Span) (ds es : List Dec) → Each DecGoes ds → Each DecGoes es → DecGoes (dec_at s (d.Local ds es))
+local_goes s ds es h g = subst Goes (sym (dec-Local s ds es)) (in_end (codes "local") (flat_map (λ d. d) (map dec_forms ds)) (flat_map (λ d. d) (map dec_forms es)) word_local (decs_go ds h) (decs_go es g))
+
+abbrev pub BindGoes : Pat × Exp → Type 0
+BindGoes b = PatGoes b.0 × ExpGoes b.1
+
+pub val_goes : (s : Span) (bs : List (Pat × Exp)) → Each BindGoes bs → DecGoes (dec_at s (d.Val bs))
+val_goes s bs h = subst Goes (sym (dec-Val s bs))
+    (then (f.Mark (codes "val")) (parted (codes "and") bind_forms (map (λ (b : Pat × Exp). (b.0, exp_ink b.1)) bs)) word_val
+    (between (codes "and") bind_forms (map (λ (b : Pat × Exp). (b.0, exp_ink b.1)) bs) word_and
+    (each_of (λ (b : Pat × Exp). (b.0, exp_ink b.1)) (λ b. Goes (bind_forms b)) bs
+    (each_map BindGoes (λ (b : Pat × Exp). Goes (bind_forms (b.0, exp_ink b.1))) (λ b k. word_between (codes "=") (pat_forms b.0) (exp_forms b.1) equals k.0 k.1.0) bs h))))
+
+pub it_goes : (s : Span) (x : Exp) → ExpGoes x → DecGoes (it_dec s x)
+it_goes s x a = val_goes s ((pat_at s (p.Name (codes "it")), x) ∷ []) ((pat_name_goes s (codes "it") it_headed, a), tt)
+
+-- types and exceptions
+abbrev pub VarsGo : List (List ℕ) → Type 0
+VarsGo vs = Each (λ (v : List ℕ). Goes (f.TyVar v ∷ [])) vs
+
+pub vars_go : (vs : List (List ℕ)) → VarsGo vs → Goes (vars_forms vs)
+vars_go [] h = none
+vars_go (v ∷ []) h = h.0
+vars_go (v ∷ w ∷ ws) h = parens (parted (codes ",") (λ name. f.TyVar name ∷ []) (v ∷ w ∷ ws)) (between (codes ",") (λ name. f.TyVar name ∷ []) (v ∷ w ∷ ws) comma h)
+
+pub abbrev_goes : (vs : List (List ℕ)) (name : List ℕ) (x : Ty) → VarsGo vs → Steady (f.Name name) → TyGoes x → Goes (abbrev_forms (vs, name, x))
+abbrev_goes vs name x h k a = join (vars_forms vs) (f.Name name ∷ f.Mark (codes "=") ∷ ty_forms x) (vars_go vs h) (then (f.Name name) (f.Mark (codes "=") ∷ ty_forms x) k (then (f.Mark (codes "=")) (ty_forms x) equals a))
+
+pub con_def_goes : (name : List ℕ) (x : Option Ty) → Steady (f.Name name) → Goes (argument_forms x) → Goes (con_def_forms (name, x))
+con_def_goes name x k a = then (f.Name name) (argument_forms x) k a
+
+pub of_goes : (x : Ty) → TyGoes x → Goes (argument_forms (Some x))
+of_goes x a = then (f.Mark (codes "of")) (ty_forms x) word_of a
+
+pub data_goes : (vs : List (List ℕ)) (name : List ℕ) (xs : List (List ℕ × Option Ty)) → VarsGo vs → Steady (f.Name name) → Each (λ c. Goes (con_def_forms c)) xs → Goes (data_forms (vs, name, xs))
+data_goes vs name xs h k a =
+    let r : Forms = parted (codes "|") con_def_forms xs in
+    join (vars_forms vs) (f.Name name ∷ f.Mark (codes "=") ∷ r) (vars_go vs h) (then (f.Name name) (f.Mark (codes "=") ∷ r) k (then (f.Mark (codes "=")) r equals (between (codes "|") con_def_forms xs bar a)))
+
+pub abbrevs_go : (s : Span) (xs : List (List (List ℕ) × List ℕ × Ty)) → Each (λ a. Goes (abbrev_forms a)) xs → DecGoes (dec_at s (d.Abbrev xs))
+abbrevs_go s xs h = subst Goes (sym (dec-Abbrev s xs)) (then (f.Mark (codes "type")) (parted (codes "and") abbrev_forms xs) word_type (between (codes "and") abbrev_forms xs word_and h))
+
+pub datas_go : (s : Span) (xs : List (List (List ℕ) × List ℕ × List (List ℕ × Option Ty))) → Each (λ a. Goes (data_forms a)) xs → DecGoes (dec_at s (d.DataDef xs))
+datas_go s xs h = subst Goes (sym (dec-DataDef s xs)) (then (f.Mark (codes "datatype")) (parted (codes "and") data_forms xs) word_datatype (between (codes "and") data_forms xs word_and h))
+
+pub exns_go : (s : Span) (xs : List (List ℕ × Option Ty)) → Each (λ a. Goes (con_def_forms a)) xs → DecGoes (dec_at s (d.ExnDef xs))
+exns_go s xs h = subst Goes (sym (dec-ExnDef s xs)) (then (f.Mark (codes "exception")) (parted (codes "and") con_def_forms xs) word_exception (between (codes "and") con_def_forms xs word_and h))
+
+-- Functions
+
+abbrev pub NotNumber : RuleInk → Type 0
+NotNumber r = is_number (form_of_pat r.pat) ≡ false
+
+-- a clause as it is printed, of several patterns or of one
+abbrev pub clause_forms : Bool → List ℕ → RuleInk → Forms
+clause_forms true name r = several_clause name (clause_of r)
+clause_forms false name r = one_clause name (clause_of r)
+
+abbrev pub ClauseGoes : Bool → List ℕ → RuleInk → Type 0
+ClauseGoes several name r = Goes (clause_forms several name r) × NotNumber r
+
+abbrev pub FunGoes : List ℕ × List Rule → Type 0
+FunGoes g = Goes (function_forms (g.0, map rule_ink g.1))
+
+clause_goes : (name : List ℕ) (q : Forms) (i : Ink) → Goes (head_forms name) → Goes q → InkGoes i → Goes (head_forms name ++ q ++ f.Mark (codes "=") ∷ i.forms)
+clause_goes name q i h k a = word_between (codes "=") (head_forms name ++ q) i.forms equals (join (head_forms name) q h k) a.0
+
+pub one_goes : (name : List ℕ) (r : RuleInk) → Goes (head_forms name) → RuleInkGoes r → NotNumber r → ClauseGoes false name r
+one_goes name r h k n = (clause_goes name (pat_forms r.pat) r.body h k.0 k.1, n)
+
+pub clause_read : (name : List ℕ) (n : ℕ) (s : Span) (x : Pat) (xs : List Pat) (b : Exp) → Goes (head_forms name) → Each PatGoes (x ∷ xs) → is_number (form_of_pat x) ≡ false → length (x ∷ xs) ≡ n → ExpGoes b →
+    ClauseGoes (nat_lt 1 n) name (rule_ink (rule_of (clause_pat s x xs) b))
+clause_read name n s x xs b h k g l a = subst (λ m. ClauseGoes (nat_lt 1 m) name (rule_ink (rule_of (clause_pat s x xs) b))) l (subst (ClauseGoes (nat_lt 1 (length (x ∷ xs))) name) (sym (ink-rule (clause_pat s x xs) b)) (go xs k))
+  where
+    go : (ys : List Pat) → Each PatGoes (x ∷ ys) → ClauseGoes (nat_lt 1 (length (x ∷ ys))) name (record { pat = clause_pat s x ys; body = exp_ink b })
+    go [] k = one_goes name (record { pat = x; body = exp_ink b }) h (k.0, a) g
+    go (y ∷ ys) k =
+        let form = form-Tuple s (x ∷ y ∷ ys) in
+        subst (λ c. ClauseGoes c name (record { pat = clause_pat s x (y ∷ ys); body = exp_ink b })) (sym (lt-ltb 1 (suc (suc (length ys))) (omega arith)))
+        (subst (λ q. Goes (head_forms name ++ q ++ f.Mark (codes "=") ∷ exp_forms b)) (sym (ap patterns_in form)) (clause_goes name (flat_map pat_forms (x ∷ y ∷ ys)) (exp_ink b) h (row pat_forms (x ∷ y ∷ ys) k) a), ap is_number form)
+
+each_clause : (several : Bool) (name : List ℕ) (rs : List RuleInk) → Each (ClauseGoes several name) rs → Goes (parted (codes "|") (clause_forms several name) rs)
+each_clause several name rs h = between (codes "|") (clause_forms several name) rs bar (each_map (ClauseGoes several name) (λ r. Goes (clause_forms several name r)) (λ r k. k.0) rs h)
+
+-- clauses of one pattern
+plain_fun : (name : List ℕ) (rs : List RuleInk) → Each (ClauseGoes false name) rs → Goes (function_forms (name, rs))
+plain_fun name [] h = none
+plain_fun name (r ∷ rs) h =
+    subst (λ b. Goes (cond b (parted (codes "|") (several_clause name) (inner_clauses (r ∷ rs))) (parted (codes "|") (λ q. one_clause name (clause_of q)) (r ∷ rs)))) (sym h.0.1)
+    (each_clause false name (r ∷ rs) h)
+
+-- and of several
+curried_fun : (s : Span) (name : List ℕ) (n : ℕ) (rs : List Rule) → Each (ClauseGoes true name) (map rule_ink rs) → Goes (function_forms (name, map rule_ink (curried s n rs ∷ [])))
+curried_fun s name n rs h = subst Goes (sym shown) (each_clause true name (map rule_ink rs) h)
+  where
+    shown : function_forms (name, map rule_ink (curried s n rs ∷ [])) ≡ parted (codes "|") (clause_forms true name) (map rule_ink rs)
+    shown = ap (λ b. cond b (parted (codes "|") (several_clause name) (rule_ink (curried s n rs)).body.clauses) (parted (codes "|") (λ q. one_clause name (clause_of q)) (rule_ink (curried s n rs) ∷ []))) (curried_number s n rs)
+        ∙ (ap (parted (codes "|") (several_clause name)) (curried_ink s n rs)
+        ∙ parted_map (codes "|") (several_clause name) clause_of (map rule_ink rs))
+
+pub fun_goes : (s : Span) (name : List ℕ) (n : ℕ) (rs : List Rule) → Each (λ r. ClauseGoes (nat_lt 1 n) name (rule_ink r)) rs → FunGoes (name, function_rules s n rs)
+fun_goes s name n rs h = go (nat_lt 1 n) (each_of rule_ink (ClauseGoes (nat_lt 1 n) name) rs h)
+  where
+    go : (b : Bool) → Each (ClauseGoes b name) (map rule_ink rs) → Goes (function_forms (name, map rule_ink (cond b (curried s n rs ∷ []) rs)))
+    go true h = curried_fun s name n rs h
+    go false h = plain_fun name (map rule_ink rs) h
+
+pub rec_goes : (name : List ℕ) (rs : List Rule) → Goes (head_forms name) → Each (λ r. RuleGoes r × NotNumber (rule_ink r)) rs → FunGoes (name, rs)
+rec_goes name rs k h = plain_fun name (map rule_ink rs) (each_of rule_ink (ClauseGoes false name) rs (each_map (λ r. RuleGoes r × NotNumber (rule_ink r)) (λ r. ClauseGoes false name (rule_ink r)) (λ r c. one_goes name (rule_ink r) k c.0 c.1) rs h))
+
+pub funs_go : (s : Span) (gs : List (List ℕ × List Rule)) → Each FunGoes gs → DecGoes (dec_at s (d.ValRec gs))
+funs_go s gs h = subst Goes (sym (dec-ValRec s gs))
+    (then (f.Mark (codes "fun")) (parted (codes "and") function_forms (map (λ (g : List ℕ × List Rule). (g.0, map rule_ink g.1)) gs)) word_fun
+    (between (codes "and") function_forms (map (λ (g : List ℕ × List Rule). (g.0, map rule_ink g.1)) gs) word_and
+    (each_of (λ (g : List ℕ × List Rule). (g.0, map rule_ink g.1)) (λ g. Goes (function_forms g)) gs h)))
+
+-- Quotations
+
+-- what may stand before the text of a quotation that begins with these tokens
+abbrev pub Begins : Before → List Token → Type 0
+Begins Fresh ts = Unit {0}
+Begins Behind_text ts = ⊥
+Begins Behind_name ts = Starts ts
+
+-- what is asked of tokens
+abbrev pub Spelt : List Token → Type 0
+Spelt [] = Unit {0}
+Spelt (t ∷ ts) = (IsFine t × IsSpelt t.form × Followed t.form ts) × Spelt ts
+
+abbrev pub TextGoes : List Token → List ℕ → Type 0
+TextGoes ts w = (us : List Token) (before : Before) (around : List ℕ) (rest : Forms) → Begins before (ts ++ us) → ((next : Before) → Fits (Quoted next around) rest) → Fits (Quoted before around) (plain_forms w ++ rest)
+
+abbrev pub AntiInkGoes : List Token → Ink → Type 0
+AntiInkGoes ts i = (us : List Token) (before : Before) (around : List ℕ) (rest : Forms) → Spelt (ts ++ us) → ((next : Before) → Begins next us → Fits (Quoted next around) rest) → Fits (Quoted before around) (anti_forms i.forms i.lone ++ rest)
+
+abbrev pub AntiGoes : List Token → Exp → Type 0
+AntiGoes ts x = AntiInkGoes ts (exp_ink x)
+
+abbrev pub PiecesGo : List Token → List Piece → Type 0
+PiecesGo ts ps = (before : Before) (around : List ℕ) (rest : Forms) → Begins before ts → Fits (shape_around around) rest → Fits (Quoted before around) (flat_map piece_forms ps ++ f.QuoteTo ∷ rest)
+
+pub no_text_goes : TextGoes [] []
+no_text_goes us before around rest b k = k before
+
+may_follow : (before : Before) (w : Token) (b : ℕ) (bs : List ℕ) (us : List Token) → w.form ≡ f.Plain (b ∷ bs) → Begins before (w ∷ us) → MayFollow before b
+may_follow Fresh w b bs us h g = tt
+may_follow Behind_text w b bs us h g = absurd g
+may_follow Behind_name w b bs us h g = subst Parts h g
+
+pub text_goes : (w : Token) (b : ℕ) (bs : List ℕ) → w.form ≡ f.Plain (b ∷ bs) → IsSpelt w.form → TextGoes (w ∷ []) (b ∷ bs)
+text_goes w b bs h s us before around rest g k = fits_text b bs (may_follow before w b bs us h g) (subst IsSpelt h s) (k Behind_text)
+
+anti_inside : (p : Forms) → Goes p → (before : Before) (around : List ℕ) (rest : Forms) → Fits (Quoted Fresh around) rest → Fits (Quoted before around) (((f.AntiFrom ∷ p) ++ f.AntiTo ∷ []) ++ rest)
+anti_inside p a before around rest h = subst (λ z. Fits (Quoted before around) (f.AntiFrom ∷ z)) (sym (append_assoc p (f.AntiTo ∷ []) rest)) (fits_anti_from (a (Inside zero around) (f.AntiTo ∷ rest) tt (fits_anti_to h)))
+
+pub anti_goes : (ts : List Token) (x : Exp) → ExpGoes x → AntiGoes ts x
+anti_goes ts x a us before around rest s k = subst (λ o. Fits (Quoted before around) (anti_forms (exp_forms x) o ++ rest)) (sym a.1) (anti_inside (exp_forms x) a.0 before around rest (k Fresh tt))
+
+pub anti_name_goes : (s : Span) (w : Token) (name : List ℕ) → w.form ≡ f.Anti name → IsSpelt w.form → AntiGoes (w ∷ []) (exp_at s (e.Name name))
+anti_name_goes s w name h k = subst (AntiInkGoes (w ∷ [])) (sym (ink-Name s name)) (go (is_lone name) refl)
+  where
+    said : SpeltAnti name
+    said = subst IsSpelt h k
+
+    go : (b : Bool) → is_lone name ≡ b → AntiInkGoes (w ∷ []) (record { forms = name_forms name; lone = cond b (Some name) None; clauses = [] })
+    go true g us before around rest q k = fits_anti name said.is_name (k Behind_name (subst (λ z. Followed z us) h q.0.2))
+    go false g us before around rest q k = anti_inside (name_forms name) (expressed name (headed name (said.spelt g))) before around rest (k Fresh tt)
+
+pub last_goes : (ts : List Token) (w : List ℕ) → TextGoes ts w → PiecesGo ts (piece.Plain w ∷ [])
+last_goes ts w a before around rest b h =
+    subst (λ q. Fits (Quoted before around) ((q ++ []) ++ f.QuoteTo ∷ rest)) (sym (piece-Plain w))
+    (subst (λ q. Fits (Quoted before around) (q ++ f.QuoteTo ∷ rest)) (sym (append-nil (plain_forms w)))
+    (a [] before around (f.QuoteTo ∷ rest) (subst (Begins before) (sym (append-nil ts)) b) (λ next. fits_quote_to h)))
+
+pub more_goes : (ts us ws : List Token) (w : List ℕ) (x : Exp) (ps : List Piece) → Spelt (us ++ ws) → TextGoes ts w → AntiGoes us x → PiecesGo ws ps → PiecesGo (ts ++ us ++ ws) (piece.Plain w ∷ piece.Anti x ∷ ps)
+more_goes ts us ws w x ps q a b c before around rest g h =
+    let tail : Forms = flat_map piece_forms ps in
+    let i : Ink = exp_ink x in
+    let anti : Forms = anti_forms i.forms i.lone in
+    subst (λ z. Fits (Quoted before around) ((z ++ (piece_forms (piece.Anti x) ++ tail)) ++ f.QuoteTo ∷ rest)) (sym (piece-Plain w))
+    (subst (λ z. Fits (Quoted before around) ((plain_forms w ++ (z ++ tail)) ++ f.QuoteTo ∷ rest)) (sym (piece-Anti x))
+    (subst (Fits (Quoted before around)) (sym (append_assoc (plain_forms w) (anti ++ tail) (f.QuoteTo ∷ rest)))
+    (a (us ++ ws) before around ((anti ++ tail) ++ f.QuoteTo ∷ rest) (subst (Begins before) (append_assoc ts us ws) g)
+    (λ next. subst (Fits (Quoted next around)) (sym (append_assoc anti tail (f.QuoteTo ∷ rest)))
+    (b ws next around (tail ++ f.QuoteTo ∷ rest) q (λ after k. c after around rest k h))))))
+
+pub quote_goes : (s : Span) (ts : List Token) (ps : List Piece) → PiecesGo ts ps → ExpGoes (exp_at s (e.Quote ps))
+quote_goes s ts ps a = made (exp_at s (e.Quote ps)) _ (ink-Quote s ps) refl (subst (λ z. Goes ((f.QuoteFrom ∷ z) ++ f.QuoteTo ∷ [])) (sym (flat_map_map (λ p. p) piece_forms ps)) whole)
+  where
+    whole : Goes ((f.QuoteFrom ∷ flat_map piece_forms ps) ++ f.QuoteTo ∷ [])
+    whole s rest r h = subst (λ z. Fits s (f.QuoteFrom ∷ z)) (sym (append_assoc (flat_map piece_forms ps) (f.QuoteTo ∷ []) rest)) (go s r h)
+      where
+        go : (s : Shape) → Reads s → Fits s rest → Fits s (f.QuoteFrom ∷ flat_map piece_forms ps ++ f.QuoteTo ∷ rest)
+        go Outside r h = fits_quote (a Fresh [] rest tt h)
+        go (Inside n around) r h = fits_inner_quote (a Fresh (n ∷ around) rest tt h)
+        go (Quoted before around) r h = absurd r

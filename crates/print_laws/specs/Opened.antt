@@ -1,0 +1,138 @@
+-- What is printed, by the parts of each form.
+use Rattle.std.specs.Prelude.{ℕ, List, [], ◌∷◌, ◌++◌, Option, Some, None, cond, map, flat_map, codes}
+use Rattle.sml_syntax.specs.declared.token.TokenForm.TheVariants as f
+use Rattle.sml_syntax.specs.declared.tree.Exp.{Exp}
+use Rattle.sml_syntax.specs.declared.tree.Pat.{Pat}
+use Rattle.sml_syntax.specs.declared.tree.Ty.{Ty}
+use Rattle.sml_syntax.specs.declared.tree.TyForm.TheOpen.{TyForm-F}
+use Rattle.sml_syntax.specs.declared.tree.Rule.{Rule, out-Rule}
+use Rattle.sml_syntax.specs.declared.tree.Piece.{Piece}
+use Rattle.sml_syntax.specs.declared.tree.Dec.{Dec}
+use Rattle.sml_syntax.specs.declared.tree.PatForm.TheOpen.{PatForm-F}
+use Rattle.sml_syntax.specs.declared.tree.DecForm.{DecForm}
+use Rattle.sml_syntax.specs.declared.tree.ExpForm.{ExpForm}
+use Rattle.sml_syntax.specs.declared.tree.DecForm.TheOpen.{DecForm-F, ExpForm-F, Piece-F}
+use Rattle.sml_syntax.specs.Layers.{ExpLayer, DecLayer, PatLayer, form_of_pat}
+use Rattle.sml_syntax.specs.NestedTypes.{TyLayer}
+use Rattle.print_laws.specs.Printing.{Forms, in_parens, parted, type_name, head_forms, name_forms, is_lone, ty_forms, pat_forms, is_number, Clause, one_clause, several_clause, anti_forms, plain_forms, exp_forms, exp_ink, piece_forms, dec_forms, abbrev_forms, data_forms, con_def_forms}
+
+-- types
+abbrev pub con_text : List ℕ → List Ty → Forms
+con_text name [] = type_name name ∷ []
+con_text name (t ∷ []) = ty_forms t ++ type_name name ∷ []
+con_text name (t ∷ u ∷ us) = (f.Mark (codes "(") ∷ parted (codes ",") ty_forms (t ∷ u ∷ us)) ++ f.Mark (codes ")") ∷ type_name name ∷ []
+
+abbrev pub starred_text : List Ty → Forms
+starred_text [] = []
+starred_text (t ∷ ts) = ty_forms t ++ flat_map (λ t. f.Name (codes "*") ∷ ty_forms t) ts
+
+abbrev pub ty_text : TyLayer → Forms
+ty_text (TyForm-F.Var name) = f.TyVar name ∷ []
+ty_text (TyForm-F.Con name arguments) = con_text name arguments
+ty_text (TyForm-F.Tuple ts) = in_parens (starred_text ts)
+ty_text (TyForm-F.Arrow from to) = in_parens (ty_forms from ++ f.Mark (codes "->") ∷ ty_forms to)
+
+-- patterns
+abbrev pub pat_text : PatLayer → Forms
+pat_text PatForm-F.Any = f.Mark (codes "_") ∷ []
+pat_text (PatForm-F.Int number) = f.Int number ∷ []
+pat_text (PatForm-F.Char byte) = f.Char byte ∷ []
+pat_text (PatForm-F.Str text) = f.Str text ∷ []
+pat_text PatForm-F.Unit = f.Mark (codes "(") ∷ f.Mark (codes ")") ∷ []
+pat_text (PatForm-F.Name name) = head_forms name
+pat_text (PatForm-F.Tuple ps) = in_parens (parted (codes ",") pat_forms ps)
+pat_text (PatForm-F.List ps) = (f.Mark (codes "[") ∷ parted (codes ",") pat_forms ps) ++ f.Mark (codes "]") ∷ []
+pat_text (PatForm-F.Con name p) = in_parens (head_forms name ++ pat_forms p)
+pat_text (PatForm-F.Typed p t) = in_parens (pat_forms p ++ f.Mark (codes ":") ∷ ty_forms t)
+
+-- rules and clauses
+abbrev pub rule_text : Rule → Forms
+rule_text r = pat_forms (out-Rule r).pat ++ f.Mark (codes "=>") ∷ exp_forms (out-Rule r).body
+
+abbrev pub match_text : List Rule → Forms
+match_text rules = parted (codes "|") rule_text rules
+
+abbrev pub clause_in : Rule → Clause
+clause_in r = record { pat = (out-Rule r).pat; body = exp_forms (out-Rule r).body }
+
+abbrev pub clause_text : List ℕ → Rule → Forms
+clause_text name r = one_clause name (clause_in r)
+
+abbrev pub several_text : List ℕ → Rule → Forms
+several_text name r = several_clause name (clause_in r)
+
+-- the clauses of an expression
+abbrev pub first_clauses : List Rule → List Clause
+first_clauses [] = []
+first_clauses (r ∷ rs) = (exp_ink (out-Rule r).body).clauses
+
+abbrev pub clauses_in : ExpLayer → List Clause
+clauses_in (ExpForm-F.Case e rules) = map clause_in rules
+clauses_in (ExpForm-F.Fn rules) = first_clauses rules
+clauses_in _ = []
+
+-- the name of an expression, where it can only stand behind `^`
+abbrev pub lone_in : ExpLayer → Option (List ℕ)
+lone_in (ExpForm-F.Name name) = cond (is_lone name) (Some name) None
+lone_in _ = None
+
+-- expressions
+abbrev pub let_text : List Dec → List Exp → Forms
+let_text ds es = (f.Mark (codes "let") ∷ flat_map dec_forms ds) ++ f.Mark (codes "in") ∷ parted (codes ";") exp_forms es ++ f.Mark (codes "end") ∷ []
+
+abbrev pub quote_text : List Piece → Forms
+quote_text pieces = (f.QuoteFrom ∷ flat_map piece_forms pieces) ++ f.QuoteTo ∷ []
+
+-- what stands in the parentheses
+abbrev pub exp_inside : ExpLayer → Forms
+exp_inside (ExpForm-F.Tuple es) = parted (codes ",") exp_forms es
+exp_inside (ExpForm-F.Seq es) = parted (codes ";") exp_forms es
+exp_inside (ExpForm-F.App function argument) = exp_forms function ++ exp_forms argument
+exp_inside (ExpForm-F.Fn rules) = f.Mark (codes "fn") ∷ match_text rules
+exp_inside (ExpForm-F.Case e rules) = f.Mark (codes "case") ∷ exp_forms e ++ f.Mark (codes "of") ∷ match_text rules
+exp_inside (ExpForm-F.Handle e rules) = exp_forms e ++ f.Mark (codes "handle") ∷ match_text rules
+exp_inside (ExpForm-F.Raise e) = f.Mark (codes "raise") ∷ exp_forms e
+exp_inside (ExpForm-F.If test chosen otherwise) = f.Mark (codes "if") ∷ exp_forms test ++ f.Mark (codes "then") ∷ exp_forms chosen ++ f.Mark (codes "else") ∷ exp_forms otherwise
+exp_inside (ExpForm-F.Both left right) = exp_forms left ++ f.Mark (codes "andalso") ∷ exp_forms right
+exp_inside (ExpForm-F.Either left right) = exp_forms left ++ f.Mark (codes "orelse") ∷ exp_forms right
+exp_inside (ExpForm-F.Typed e t) = exp_forms e ++ f.Mark (codes ":") ∷ ty_forms t
+exp_inside _ = []
+
+abbrev pub exp_text : ExpLayer → Forms
+exp_text (ExpForm-F.Int number) = f.Int number ∷ []
+exp_text (ExpForm-F.Char byte) = f.Char byte ∷ []
+exp_text (ExpForm-F.Str text) = f.Str text ∷ []
+exp_text (ExpForm-F.Name name) = name_forms name
+exp_text (ExpForm-F.List es) = (f.Mark (codes "[") ∷ parted (codes ",") exp_forms es) ++ f.Mark (codes "]") ∷ []
+exp_text (ExpForm-F.Let ds es) = let_text ds es
+exp_text (ExpForm-F.Quote pieces) = quote_text pieces
+exp_text layer = in_parens (exp_inside layer)
+
+abbrev pub piece_text : Piece-F DecForm ExpForm Piece Dec Exp Rule → Forms
+piece_text (Piece-F.Plain text) = plain_forms text
+piece_text (Piece-F.Anti e) = anti_forms (exp_ink e).forms (exp_ink e).lone
+
+-- declarations
+abbrev pub bind_text : Pat × Exp → Forms
+bind_text bind = pat_forms bind.0 ++ f.Mark (codes "=") ∷ exp_forms bind.1
+
+abbrev pub function_by : List ℕ → List Rule → Forms
+function_by name [] = []
+function_by name (r ∷ rs) =
+    cond (is_number (form_of_pat (out-Rule r).pat))
+    (parted (codes "|") (several_clause name) (exp_ink (out-Rule r).body).clauses)
+    (parted (codes "|") (clause_text name) (r ∷ rs))
+
+abbrev pub function_text : List ℕ × List Rule → Forms
+function_text function = function_by function.0 function.1
+
+abbrev pub local_text : List Dec → List Dec → Forms
+local_text hidden shown = (f.Mark (codes "local") ∷ flat_map dec_forms hidden) ++ f.Mark (codes "in") ∷ flat_map dec_forms shown ++ f.Mark (codes "end") ∷ []
+
+abbrev pub dec_text : DecLayer → Forms
+dec_text (DecForm-F.Val binds) = f.Mark (codes "val") ∷ parted (codes "and") bind_text binds
+dec_text (DecForm-F.ValRec functions) = f.Mark (codes "fun") ∷ parted (codes "and") function_text functions
+dec_text (DecForm-F.Abbrev all) = f.Mark (codes "type") ∷ parted (codes "and") abbrev_forms all
+dec_text (DecForm-F.DataDef all) = f.Mark (codes "datatype") ∷ parted (codes "and") data_forms all
+dec_text (DecForm-F.ExnDef all) = f.Mark (codes "exception") ∷ parted (codes "and") con_def_forms all
+dec_text (DecForm-F.Local hidden shown) = local_text hidden shown

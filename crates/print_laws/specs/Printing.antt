@@ -1,0 +1,277 @@
+-- The tokens of the text that a tree is printed as: each form is atomic, in parentheses where it isn't so by itself.
+-- A function of clauses is printed as clauses, also where its tree has the derived form of several patterns: such a tree begins
+-- with a pattern that is the name of a number, which no text can have.
+use Rattle.std.specs.Prelude.{ℕ, ◌==◌, List, [], ◌∷◌, ◌++◌, Bool, false, Option, Some, None, cond, map, flat_map, codes, ◌||◌}
+use Rattle.std.specs.List.{list_any}
+use Rattle.std.specs.Str.{bytes_eq}
+use Rattle.sml_syntax.specs.declared.token.TokenForm.{TokenForm}
+use Rattle.sml_syntax.specs.declared.token.TokenForm.TheVariants as f
+use Rattle.sml_syntax.specs.declared.tree.Ty.{Ty}
+use Rattle.sml_syntax.specs.declared.tree.TyForm.TheOpen.{TyForm-F}
+use Rattle.sml_syntax.specs.declared.tree.TyForm.TheFolds.{fold-Ty}
+use Rattle.sml_syntax.specs.declared.tree.Pat.{Pat}
+use Rattle.sml_syntax.specs.declared.tree.PatForm.TheOpen.{PatForm-F}
+use Rattle.sml_syntax.specs.declared.tree.PatForm.TheFolds.{fold-Pat}
+use Rattle.sml_syntax.specs.declared.tree.Exp.{Exp}
+use Rattle.sml_syntax.specs.declared.tree.Rule.{Rule}
+use Rattle.sml_syntax.specs.declared.tree.Piece.{Piece}
+use Rattle.sml_syntax.specs.declared.tree.Dec.{Dec}
+use Rattle.sml_syntax.specs.declared.tree.Program.{Program}
+use Rattle.sml_syntax.specs.declared.tree.DecForm.TheOpen.{DecForm-F, ExpForm-F, Piece-F, Rule-F}
+use Rattle.sml_syntax.specs.declared.tree.DecForm.TheFolds.{fold-Exp, fold-Rule, fold-Piece, fold-Dec}
+use Rattle.sml_syntax.specs.InfixNames.{infix_level}
+use Rattle.sml_syntax.specs.Layers.{PatLayer, form_of_pat}
+use Rattle.sml_syntax.specs.Spelling.{is_digit, is_among, reserved_words, module_words, layered_words, abstype_words, fixity_words, while_words}
+use Rattle.print_laws.specs.Spelled.{spelled}
+
+abbrev pub Forms : Type 0
+Forms = List TokenForm
+
+-- Lists
+
+abbrev pub in_parens : Forms → Forms
+in_parens forms = (f.Mark (codes "(") ∷ forms) ++ (f.Mark (codes ")") ∷ [])
+
+-- each behind a mark
+abbrev pub behind_mark : {A : Type 0} → List ℕ → (A → Forms) → List A → Forms
+behind_mark mark forms xs = flat_map (λ x. f.Mark mark ∷ forms x) xs
+
+-- with a mark between
+abbrev pub parted : {A : Type 0} → List ℕ → (A → Forms) → List A → Forms
+parted mark forms [] = []
+parted mark forms (x ∷ xs) = forms x ++ behind_mark mark forms xs
+
+-- Names
+
+abbrev pub has_dot : List ℕ → Bool
+has_dot name = list_any (λ b. b == 46) name
+
+abbrev pub with_op : Option ℕ → TokenForm → Forms
+with_op None form = form ∷ []
+with_op (Some level) form = f.Mark (codes "op") ∷ form ∷ []
+
+-- a name, an infix one behind `op`
+unfoldable pub head_forms : List ℕ → Forms
+head_forms name = cond (has_dot name) (f.Long name ∷ []) (with_op (infix_level name) (f.Name name))
+
+-- a name as an expression: `=` is one too
+unfoldable pub name_forms : List ℕ → Forms
+name_forms name = cond (bytes_eq name (codes "=")) (f.Mark (codes "op") ∷ f.Mark (codes "=") ∷ []) (head_forms name)
+
+-- a name where types stand: no infix one does
+abbrev pub unless_infix : Option ℕ → List ℕ → TokenForm
+unless_infix None name = f.Name name
+unless_infix (Some level) name = f.Long name
+
+unfoldable pub type_name : List ℕ → TokenForm
+type_name name = cond (has_dot name) (f.Long name) (unless_infix (infix_level name) name)
+
+-- a word that is no name, reserved or of a form that the language lacks: it can only stand behind `^`, where each word is taken for a name
+abbrev pub lacking_words : List (List ℕ)
+lacking_words = module_words ++ layered_words ++ abstype_words ++ fixity_words ++ while_words
+
+unfoldable pub is_lone : List ℕ → Bool
+is_lone name = is_among reserved_words name || is_among lacking_words name
+
+-- Types
+
+-- a type constant behind its arguments
+abbrev pub con_forms : List ℕ → List Forms → Forms
+con_forms name [] = type_name name ∷ []
+con_forms name (t ∷ []) = t ++ type_name name ∷ []
+con_forms name (t ∷ u ∷ us) = (f.Mark (codes "(") ∷ parted (codes ",") (λ t. t) (t ∷ u ∷ us)) ++ f.Mark (codes ")") ∷ type_name name ∷ []
+
+-- with stars between
+abbrev pub starred : List Forms → Forms
+starred [] = []
+starred (t ∷ ts) = t ++ flat_map (λ t. f.Name (codes "*") ∷ t) ts
+
+abbrev pub ty_layer : TyForm-F Forms Forms → Forms
+ty_layer (TyForm-F.Var name) = f.TyVar name ∷ []
+ty_layer (TyForm-F.Con name arguments) = con_forms name arguments
+ty_layer (TyForm-F.Tuple ts) = in_parens (starred ts)
+ty_layer (TyForm-F.Arrow from to) = in_parens (from ++ f.Mark (codes "->") ∷ to)
+
+abbrev pub ty_forms : Ty → Forms
+ty_forms = fold-Ty Forms Forms ty_layer (λ t. t.form)
+
+-- Patterns
+
+abbrev pub pat_layer : PatForm-F Forms Forms → Forms
+pat_layer PatForm-F.Any = f.Mark (codes "_") ∷ []
+pat_layer (PatForm-F.Int number) = f.Int number ∷ []
+pat_layer (PatForm-F.Char byte) = f.Char byte ∷ []
+pat_layer (PatForm-F.Str text) = f.Str text ∷ []
+pat_layer PatForm-F.Unit = f.Mark (codes "(") ∷ f.Mark (codes ")") ∷ []
+pat_layer (PatForm-F.Name name) = head_forms name
+pat_layer (PatForm-F.Tuple ps) = in_parens (parted (codes ",") (λ p. p) ps)
+pat_layer (PatForm-F.List ps) = (f.Mark (codes "[") ∷ parted (codes ",") (λ p. p) ps) ++ f.Mark (codes "]") ∷ []
+pat_layer (PatForm-F.Con name p) = in_parens (head_forms name ++ p)
+pat_layer (PatForm-F.Typed p t) = in_parens (p ++ f.Mark (codes ":") ∷ ty_forms t)
+
+abbrev pub pat_forms : Pat → Forms
+pat_forms = fold-Pat Forms Forms pat_layer (λ p. p.form)
+
+-- the patterns of a clause of several
+abbrev pub patterns_in : PatLayer → Forms
+patterns_in (PatForm-F.Tuple ps) = flat_map pat_forms ps
+patterns_in _ = []
+
+-- the name of a number
+abbrev pub begins_number : List ℕ → Bool
+begins_number [] = false
+begins_number (b ∷ bs) = is_digit b
+
+abbrev pub is_number : PatLayer → Bool
+is_number (PatForm-F.Name name) = begins_number name
+is_number _ = false
+
+-- Expressions
+
+-- a pattern and what stands behind it
+pub record Clause : Type 0 where
+  pub pat : Pat
+  pub body : Forms
+
+-- what is printed of an expression: its tokens, its name where that is one which can only stand behind `^`,
+-- and the clauses of the `case` that it is, or is functions around
+pub record Ink : Type 0 where
+  pub forms : Forms
+  pub lone : Option (List ℕ)
+  pub clauses : List Clause
+
+-- of a rule
+pub record RuleInk : Type 0 where
+  pub pat : Pat
+  pub body : Ink
+
+abbrev pub ink : Forms → Ink
+ink forms = record { forms = forms; lone = None; clauses = [] }
+
+abbrev pub rule_forms : RuleInk → Forms
+rule_forms r = pat_forms r.pat ++ f.Mark (codes "=>") ∷ r.body.forms
+
+abbrev pub match_forms : List RuleInk → Forms
+match_forms rules = parted (codes "|") rule_forms rules
+
+abbrev pub clause_of : RuleInk → Clause
+clause_of r = record { pat = r.pat; body = r.body.forms }
+
+-- the clauses in the first rule
+abbrev pub inner_clauses : List RuleInk → List Clause
+inner_clauses [] = []
+inner_clauses (r ∷ rs) = r.body.clauses
+
+abbrev pub exps_forms : List ℕ → List Ink → Forms
+exps_forms mark es = parted mark (λ (e : Ink). e.forms) es
+
+abbrev pub anti_forms : Forms → Option (List ℕ) → Forms
+anti_forms forms (Some name) = f.Anti name ∷ []
+anti_forms forms None = (f.AntiFrom ∷ forms) ++ f.AntiTo ∷ []
+
+-- the text of a quotation, which has no token where it is empty
+abbrev pub plain_forms : List ℕ → Forms
+plain_forms [] = []
+plain_forms (b ∷ bs) = f.Plain (b ∷ bs) ∷ []
+
+abbrev pub piece_layer : Piece-F Forms Ink Forms Forms Ink RuleInk → Forms
+piece_layer (Piece-F.Plain text) = plain_forms text
+piece_layer (Piece-F.Anti e) = anti_forms e.forms e.lone
+
+abbrev pub exp_layer : ExpForm-F Forms Ink Forms Forms Ink RuleInk → Ink
+exp_layer (ExpForm-F.Int number) = ink (f.Int number ∷ [])
+exp_layer (ExpForm-F.Char byte) = ink (f.Char byte ∷ [])
+exp_layer (ExpForm-F.Str text) = ink (f.Str text ∷ [])
+exp_layer (ExpForm-F.Name name) = record { forms = name_forms name; lone = cond (is_lone name) (Some name) None; clauses = [] }
+exp_layer ExpForm-F.Unit = ink (f.Mark (codes "(") ∷ f.Mark (codes ")") ∷ [])
+exp_layer (ExpForm-F.Tuple es) = ink (in_parens (exps_forms (codes ",") es))
+exp_layer (ExpForm-F.List es) = ink ((f.Mark (codes "[") ∷ exps_forms (codes ",") es) ++ f.Mark (codes "]") ∷ [])
+exp_layer (ExpForm-F.Seq es) = ink (in_parens (exps_forms (codes ";") es))
+exp_layer (ExpForm-F.App function argument) = ink (in_parens (function.forms ++ argument.forms))
+exp_layer (ExpForm-F.Let ds es) = ink ((f.Mark (codes "let") ∷ flat_map (λ d. d) ds) ++ f.Mark (codes "in") ∷ exps_forms (codes ";") es ++ f.Mark (codes "end") ∷ [])
+exp_layer (ExpForm-F.Fn rules) = record { forms = in_parens (f.Mark (codes "fn") ∷ match_forms rules); lone = None; clauses = inner_clauses rules }
+exp_layer (ExpForm-F.Case e rules) = record { forms = in_parens (f.Mark (codes "case") ∷ e.forms ++ f.Mark (codes "of") ∷ match_forms rules); lone = None; clauses = map clause_of rules }
+exp_layer (ExpForm-F.Handle e rules) = ink (in_parens (e.forms ++ f.Mark (codes "handle") ∷ match_forms rules))
+exp_layer (ExpForm-F.Raise e) = ink (in_parens (f.Mark (codes "raise") ∷ e.forms))
+exp_layer (ExpForm-F.If test chosen otherwise) = ink (in_parens (f.Mark (codes "if") ∷ test.forms ++ f.Mark (codes "then") ∷ chosen.forms ++ f.Mark (codes "else") ∷ otherwise.forms))
+exp_layer (ExpForm-F.Both left right) = ink (in_parens (left.forms ++ f.Mark (codes "andalso") ∷ right.forms))
+exp_layer (ExpForm-F.Either left right) = ink (in_parens (left.forms ++ f.Mark (codes "orelse") ∷ right.forms))
+exp_layer (ExpForm-F.Quote pieces) = ink ((f.QuoteFrom ∷ flat_map (λ p. p) pieces) ++ f.QuoteTo ∷ [])
+exp_layer (ExpForm-F.Typed e t) = ink (in_parens (e.forms ++ f.Mark (codes ":") ∷ ty_forms t))
+
+-- Declarations
+
+-- a clause of a function of that name: one pattern, or those of its tuple
+abbrev pub one_clause : List ℕ → Clause → Forms
+one_clause name c = head_forms name ++ pat_forms c.pat ++ f.Mark (codes "=") ∷ c.body
+
+abbrev pub several_clause : List ℕ → Clause → Forms
+several_clause name c = head_forms name ++ patterns_in (form_of_pat c.pat) ++ f.Mark (codes "=") ∷ c.body
+
+-- the first rule has the name of a number for its pattern
+abbrev pub is_curried : List RuleInk → Bool
+is_curried [] = false
+is_curried (r ∷ rs) = is_number (form_of_pat r.pat)
+
+abbrev pub function_forms : List ℕ × List RuleInk → Forms
+function_forms function =
+    cond (is_curried function.1)
+    (parted (codes "|") (several_clause function.0) (inner_clauses function.1))
+    (parted (codes "|") (λ r. one_clause function.0 (clause_of r)) function.1)
+
+abbrev pub bind_forms : Pat × Ink → Forms
+bind_forms bind = pat_forms bind.0 ++ f.Mark (codes "=") ∷ bind.1.forms
+
+-- the variables before a type's name
+abbrev pub vars_forms : List (List ℕ) → Forms
+vars_forms [] = []
+vars_forms (v ∷ []) = f.TyVar v ∷ []
+vars_forms (v ∷ w ∷ ws) = in_parens (parted (codes ",") (λ name. f.TyVar name ∷ []) (v ∷ w ∷ ws))
+
+abbrev pub abbrev_forms : List (List ℕ) × List ℕ × Ty → Forms
+abbrev_forms a = vars_forms a.0 ++ f.Name a.1 ∷ f.Mark (codes "=") ∷ ty_forms a.2
+
+abbrev pub argument_forms : Option Ty → Forms
+argument_forms None = []
+argument_forms (Some t) = f.Mark (codes "of") ∷ ty_forms t
+
+abbrev pub con_def_forms : List ℕ × Option Ty → Forms
+con_def_forms c = f.Name c.0 ∷ argument_forms c.1
+
+abbrev pub data_forms : List (List ℕ) × List ℕ × List (List ℕ × Option Ty) → Forms
+data_forms d = vars_forms d.0 ++ f.Name d.1 ∷ f.Mark (codes "=") ∷ parted (codes "|") con_def_forms d.2
+
+abbrev pub dec_layer : DecForm-F Forms Ink Forms Forms Ink RuleInk → Forms
+dec_layer (DecForm-F.Val binds) = f.Mark (codes "val") ∷ parted (codes "and") bind_forms binds
+dec_layer (DecForm-F.ValRec functions) = f.Mark (codes "fun") ∷ parted (codes "and") function_forms functions
+dec_layer (DecForm-F.Abbrev all) = f.Mark (codes "type") ∷ parted (codes "and") abbrev_forms all
+dec_layer (DecForm-F.DataDef all) = f.Mark (codes "datatype") ∷ parted (codes "and") data_forms all
+dec_layer (DecForm-F.ExnDef all) = f.Mark (codes "exception") ∷ parted (codes "and") con_def_forms all
+dec_layer (DecForm-F.Local hidden shown) = (f.Mark (codes "local") ∷ flat_map (λ d. d) hidden) ++ f.Mark (codes "in") ∷ flat_map (λ d. d) shown ++ f.Mark (codes "end") ∷ []
+
+abbrev pub rule_layer : Rule-F Forms Ink Forms Forms Ink RuleInk → RuleInk
+rule_layer r = record { pat = r.pat; body = r.body }
+
+-- what is printed of each kind of tree
+abbrev pub exp_ink : Exp → Ink
+exp_ink = fold-Exp Forms Ink Forms Forms Ink RuleInk dec_layer exp_layer piece_layer (λ d. d.form) (λ e. e.form) rule_layer
+
+abbrev pub exp_forms : Exp → Forms
+exp_forms e = (exp_ink e).forms
+
+abbrev pub rule_ink : Rule → RuleInk
+rule_ink = fold-Rule Forms Ink Forms Forms Ink RuleInk dec_layer exp_layer piece_layer (λ d. d.form) (λ e. e.form) rule_layer
+
+abbrev pub piece_forms : Piece → Forms
+piece_forms = fold-Piece Forms Ink Forms Forms Ink RuleInk dec_layer exp_layer piece_layer (λ d. d.form) (λ e. e.form) rule_layer
+
+abbrev pub dec_forms : Dec → Forms
+dec_forms = fold-Dec Forms Ink Forms Forms Ink RuleInk dec_layer exp_layer piece_layer (λ d. d.form) (λ e. e.form) rule_layer
+
+-- the tokens of a program
+abbrev pub program_forms : Program → Forms
+program_forms program = flat_map dec_forms program.items
+
+-- the text of a program: a declaration a line
+unfoldable pub printed : Program → List ℕ
+printed program = flat_map (λ d. spelled (dec_forms d) ++ 10 ∷ []) program.items

@@ -1,6 +1,0 @@
-use Rattle.std.proofs.Common.{◌≡◌, [], ◌++◌, drop}
-use Rattle.sml_parse.specs.Lacks.{own_types}
-use Rattle.sml_parse.proofs.lacks.own_types.Given as goal
-
-abbrev pub invariant-loop-made : goal.invariant-loop-made
-invariant-loop-made l = l.own.items ++ own_types l.vars.items (drop l.made-index l.acts) ≡ own_types [] l.acts

@@ -1,0 +1,7 @@
+use Rattle.std.proofs.Common.{◌≡◌, ◌++◌, take}
+use Rattle.std.specs.Prelude.{codes}
+use Rattle.print_laws.specs.Printing.{behind_mark, abbrev_forms}
+use Rattle.sml_print.proofs.definitions.print_more_abbrevs.Given as goal
+
+abbrev pub invariant-loop-one : goal.invariant-loop-one
+invariant-loop-one l = l.forms ≡ l.fn.forms ++ behind_mark (codes "and") abbrev_forms (take l.one-index l.all)
