@@ -48,9 +48,9 @@ def program():
     sys.exit("the program is not built yet: run ./smlserver --version")
 
 
-def run(binary, folder):
-    """Processor seconds, peak kilobytes, status and the line."""
-    child = subprocess.Popen([binary, "page", "site", "/hello", ""], cwd=folder, stdout=subprocess.PIPE)
+def timed(words, folder):
+    """Processor seconds, peak kilobytes, status and output of a command that is run in a folder."""
+    child = subprocess.Popen(words, cwd=folder, stdout=subprocess.PIPE, stderr=subprocess.DEVNULL)
     line = child.stdout.read()
     _, status, usage = os.wait4(child.pid, 0)
     child.stdout.close()
@@ -58,7 +58,7 @@ def run(binary, folder):
 
 
 def main():
-    binary = program()
+    binary = os.path.abspath(program())
     runs = int(sys.argv[1]) if len(sys.argv) > 1 else 5
     missed = False
     with tempfile.TemporaryDirectory() as folder:
@@ -67,7 +67,7 @@ def main():
         for name, text in TEXTS:
             with open(os.path.join(folder, "hello.sml"), "w") as file:
                 file.write(text)
-            seconds, peak, status, line = min(run(binary, folder) for _ in range(runs))
+            seconds, peak, status, line = min(timed([binary, "page", "site", "/hello", ""], folder) for _ in range(runs))
             each = peak * 1024 / len(text)
             fits = seconds < SECONDS and each <= BYTES and status == 3
             missed = missed or not fits
@@ -76,4 +76,5 @@ def main():
     sys.exit(1 if missed else 0)
 
 
-main()
+if __name__ == "__main__":
+    main()

@@ -27,10 +27,7 @@ const TEXTS: [(&str, &str); 12] = [
         "`a ^(x)y^val z^(`b^(1)`)^o^^`",
         "val it = `a ^( x )y^val z^( `b^( 1 )` )^( op o )^^` \n",
     ),
-    (
-        "val rec f = fn x => x | 1 => 2",
-        "fun f x = x | f 1 = 2 \n",
-    ),
+    ("val rec f = fn x => x | 1 => 2", "fun f x = x | f 1 = 2 \n"),
     (
         "fun A.f 1 (x, y) = x | A.f x z : t = y and op o z = z",
         "fun A.f 1 ( x , y ) = x | A.f x z = ( y : t ) and op o z = z \n",
