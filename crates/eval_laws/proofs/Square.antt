@@ -28,7 +28,7 @@ use Rattle.sml_syntax.specs.Values.{Env, prim_value, unit_value, text_value, non
 use Rattle.sml_syntax.specs.Data.{has_desc, has_form_of}
 use Rattle.sml_syntax.specs.DataValues.{Data, data_by, datum_of, value_of, value_by, words_of}
 use Rattle.sml_syntax.specs.Outcome.{EvalState, Outcome, Done, Waits, then_do, counted}
-use Rattle.sml_syntax.specs.Evaluation.{eval, held_names, held_by, level, is_constructor, opened, meaning, binding, plan_of, application, functions_words, names_of, group_bound, all_rules}
+use Rattle.sml_syntax.specs.Evaluation.{eval, held_names, held_by, level, tells_constructor, binding, plan_of, application, functions_words, names_of, group_bound, all_rules}
 use Rattle.sml_syntax.specs.FreeNames.{free_names, Names}
 use Rattle.sml_syntax.specs.Page.{html_type, Finished, EndsAs, PageOf}
 use Rattle.sml_syntax.specs.Primitives.{Comparing, prim_result, found, on_cache, datum_result}
@@ -119,7 +119,7 @@ module _ (at : Span) where
   two_rules = k.rules_of at anything (of_two anything)
 
   abbrev constructs : Env → List ℕ → Bool
-  constructs env n = is_constructor (opened (meaning n env))
+  constructs env n = tells_constructor env n
 
   -- ---- what the names stand for behind each declaration
 

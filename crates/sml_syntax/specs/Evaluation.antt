@@ -5,7 +5,7 @@
 -- lower by one, and so are the parts of values that are compared. A greater height changes no outcome but that the height ran out.
 -- One is counted for each expression, declaration and binding, each rule and node of a pattern that is tried, each application and each
 -- pair of values compared, when it is begun; and the words of the values made.
-use Rattle.std.specs.Prelude.{ℕ, zero, suc, ◌+◌, ◌-◌, ◌*◌, ◌==◌, ℤ, pos, negsuc, Bool, true, false, ◌&&◌, List, [], ◌∷◌, ◌++◌, length, map, take, slice_get, Option, Some, None, is_some, codes, if◌then◌else◌}
+use Rattle.std.specs.Prelude.{ℕ, zero, suc, ◌+◌, ◌-◌, ◌*◌, ◌==◌, ℤ, pos, negsuc, Bool, true, false, ◌&&◌, ◌||◌, List, [], ◌∷◌, ◌++◌, length, map, take, slice_get, Option, Some, None, is_some, codes, if◌then◌else◌}
 use Rattle.std.specs.Str.{bytes_eq}
 use Rattle.sml_syntax.specs.declared.tree.Exp.{Exp}
 use Rattle.sml_syntax.specs.declared.tree.Dec.{Dec}
@@ -108,9 +108,13 @@ abbrev pub variables_in : Env → ℕ
 variables_in [] = 0
 variables_in (e ∷ env) = one_if_variable (out-Bound e.1) + variables_in env
 
+-- whether a name in a pattern occurs free: it stands for a constructor, or a variable hides one of the basis
+abbrev pub tells_constructor : Env → List ℕ → Bool
+tells_constructor env name = is_constructor (opened (meaning name env)) || is_constructor (opened (bound_of name basis))
+
 -- the names free in rules that the program binds, and what to
 abbrev pub held_by : List (List ℕ) → Env → List Rule → Env
-held_by declared env rules = held_names (free_names (λ name. is_constructor (opened (meaning name env))) declared rules) env
+held_by declared env rules = held_names (free_names (tells_constructor env) declared rules) env
 
 -- the words of a function: one, and one for each variable free in it
 abbrev pub function_words : List (List ℕ) → Env → List Rule → ℕ

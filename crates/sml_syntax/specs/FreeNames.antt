@@ -1,5 +1,6 @@
 -- The names free in the rules of a function, in the order of their first occurrence in the text.
--- The Definition of Standard ML, section 4.2 (the free identifiers of a phrase); a name in a pattern that stands for a constructor occurs free.
+-- The Definition of Standard ML, section 4.2 (the free identifiers of a phrase); a name in a pattern that stands for a constructor, or hides one
+-- of the basis, occurs free: without it the function would take the name for the constructor again.
 use Rattle.std.specs.Prelude.{ℕ, Bool, true, false, not, ◌&&◌, ◌||◌, List, [], ◌∷◌, ◌++◌, map, filter, flat_map, if◌then◌else◌}
 use Rattle.sml_syntax.specs.declared.tree.Pat.{Pat}
 use Rattle.sml_syntax.specs.declared.tree.PatForm.TheOpen.{PatForm-F, Pat-F}
