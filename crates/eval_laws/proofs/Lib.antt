@@ -5,3 +5,4 @@ pub mod Expressions
 pub mod Levels
 pub mod UsedNames
 pub mod Square
+pub mod Hidden

@@ -122,6 +122,13 @@ module _ (at : Span) where
   abbrev pub squares : List Dec
   squares = memoize ∷ squares_cache ∷ memoised_square ∷ squares_written ∷ []
 
+  -- fn NONE => "any" | _ => "other"
+  abbrev pub any_or_other : List Rule
+  any_or_other =
+      rule_of (variable (codes "NONE")) (text (codes "any"))
+      ∷ rule_of (pat_at at p.Any) (text (codes "other"))
+      ∷ []
+
 -- the cache of the script, and a call of it
 abbrev pub squares_id : CacheId
 squares_id = record { name = codes "sq"; key = desc.Int; value = desc.Int; kind = record { used = true; time = None; size = None } }

@@ -1,15 +1,17 @@
 // Worked examples of the evaluation.
-ghost use Rattle.std.specs.Prelude.{◌≡◌, ℕ, List, ◌^◌, ◌-◌, pos, negsuc, true, false, None, codes};
-ghost use Rattle.sml_syntax.specs.declared.value.Bound.TheOpen.{Value-F};
+ghost use Rattle.std.specs.Prelude.{◌≡◌, ℕ, List, [], ◌∷◌, ◌^◌, ◌-◌, pos, negsuc, true, false, None, codes};
+ghost use Rattle.sml_syntax.specs.declared.value.Value.{Value};
+ghost use Rattle.sml_syntax.specs.declared.value.Bound.{roll-Bound};
+ghost use Rattle.sml_syntax.specs.declared.value.Bound.TheOpen.{Value-F, Bound-F};
 ghost use Rattle.sml_syntax.specs.declared.tree.DecForm.TheOpen.{Piece-F};
 ghost use Rattle.sml_syntax.specs.Values.{Env, int_value, text_value, applied_value, exn_value};
 ghost use Rattle.sml_syntax.specs.Outcome.{EvalState, Done, Raised, counted};
 ghost use Rattle.sml_syntax.specs.BasisFunctions.{quotient, modulus};
 ghost use Rattle.sml_syntax.specs.Primitives.{Comparing, by_divisor};
 ghost use Rattle.sml_syntax.specs.declared.tree.Span.{Span};
-ghost use Rattle.sml_syntax.specs.Evaluation.{Evaluator, bound_more, piece_value, same_result};
+ghost use Rattle.sml_syntax.specs.Evaluation.{Evaluator, bound_more, held_by, piece_value, same_result};
 ghost use Rattle.sml_syntax.specs.Page.{PageOf, Finished, html_type};
-ghost use Rattle.eval_laws.specs.Examples.{squares, square_answers, square_calls};
+ghost use Rattle.eval_laws.specs.Examples.{any_or_other, squares, square_answers, square_calls};
 
 /// `~7 div 2` is `~4` and leaves 1; `7 div ~2` is `~4` and leaves `~1`.
 pub fn division_rounds_down()
@@ -39,6 +41,12 @@ pub fn bind_is_raised()
 /// A plain piece of a quotation is `QUOTE` of its text: two words, and two of the text.
 pub fn plain_piece_is_quoted()
     ensures { (part : Evaluator) (env : Env) (s : EvalState) → piece_value part env s (Piece-F.Plain (codes "a")) ≡ Done (applied_value (codes "QUOTE") (text_value (codes "a"))) (counted 4 s) }
+{}
+
+/// Where a variable hides a constructor of the basis, a function with that name in a pattern holds the variable, so that the name
+/// binds there: `fun NONE x = x`, and then `fn NONE => "any" | _ => "other"`.
+pub fn hidden_constructor_is_held()
+    ensures { (at : Span) (v : Value) → held_by [] ((codes "NONE", roll-Bound (Bound-F.Variable v)) ∷ []) (any_or_other at) ≡ (codes "NONE", roll-Bound (Bound-F.Variable v)) ∷ [] }
 {}
 
 /// `Web.Cache.memoize` of the prelude, and a script that writes the square of 7 twice by it. The first time nothing is found, the

@@ -5,7 +5,7 @@ mod examples;
 mod heights;
 
 pub use examples::{
-    bind_is_raised, division_raises, division_rounds_down, plain_piece_is_quoted,
-    references_are_told_apart, square_is_remembered,
+    bind_is_raised, division_raises, division_rounds_down, hidden_constructor_is_held,
+    plain_piece_is_quoted, references_are_told_apart, square_is_remembered,
 };
 pub use heights::{counts_grow, greater_heights};

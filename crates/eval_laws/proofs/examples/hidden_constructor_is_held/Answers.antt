@@ -1,0 +1,5 @@
+use Rattle.eval_laws.proofs.Hidden.{holds}
+use Rattle.eval_laws.proofs.examples.hidden_constructor_is_held.Goals as goal
+
+pub returns : goal.returns
+returns c = λ at v. holds at v
