@@ -111,11 +111,11 @@ option_at word regions = if is_pointer word then option_map Some (field_at word 
 
 -- ---- data
 
--- the datum of a description that a word stands for, by the description's form, with what its parts read
+-- the datum of a description that a word stands for, by the description's form, with what its parts read; a character is below 256
 abbrev pub datum_by : Desc-F (ℕ → List Region → Option Datum) → ℕ → List Region → Option Datum
 datum_by Desc-F.Int word regions = Some (datum.Int (number_of word))
 datum_by Desc-F.Bool word regions = Some (datum.Bool (word == 1))
-datum_by Desc-F.Char word regions = Some (datum.Char word)
+datum_by Desc-F.Char word regions = if nat_lt word 256 then Some (datum.Char word) else None
 datum_by Desc-F.Str word regions = option_map datum.Str (text_behind word regions)
 datum_by Desc-F.Unit word regions = Some datum.Unit
 datum_by (Desc-F.Pair a b) word regions =

@@ -169,7 +169,7 @@ pub data Result : Type 0 where
   NoStatement : ℕ → Result
   Lacks : Result
 
--- the result, below which this stack lies; a call leaves its words where they are till its answer comes
+-- the result, below which this stack lies; a call leaves its words where they are till its answer comes; an end is a step too
 abbrev pub delivered : Code → State → List ℕ → Result → Next
 delivered code state stack (Word w) = pushed w stack state
 delivered code state stack Nothing = Goes (onward stack state)
@@ -182,7 +182,7 @@ delivered code state stack (Body body) = Goes (onward stack (record state { body
 delivered code state stack (Status status) = Goes (onward stack (record state { status = status }))
 delivered code state stack (ContentType content_type) = Goes (onward stack (record state { content_type = content_type }))
 delivered code state stack (Calls c) = Waits c state
-delivered code state stack (NoStatement place) = Ends (BadStatement place) state
+delivered code state stack (NoStatement place) = Ends (BadStatement place) (onward stack state)
 delivered code state stack Lacks = Stuck
 
 -- what must be found for a result
@@ -205,6 +205,10 @@ truth b = Word (number_of_bool b)
 abbrev pub byte_or : ℕ → Option ℕ → Result
 byte_or number None = Throws number
 byte_or number (Some b) = Word b
+
+-- the text of one character; a word of 256 or more is none
+abbrev pub text_of_char : ℕ → ℕ → Result
+text_of_char r c = if nat_lt c 256 then Text r (c ∷ []) else Lacks
 
 -- a text made in a region, or Subscript
 abbrev pub text_or_subscript : ℕ → Option (List ℕ) → Result
@@ -378,7 +382,7 @@ shape_of code instr.TextCompare =
     Word (ordering_index (slice_cmp nat_cmp first second)))))
 shape_of code instr.TextFromInt = Two (λ state n r. Text r (spelling (number_of n)))
 shape_of code instr.IntFromText = Two (λ state p r. of_found (text_behind p state.regions) (λ text. option_of_number r (number_front text)))
-shape_of code instr.TextFromChar = Two (λ state c r. Text r (c ∷ []))
+shape_of code instr.TextFromChar = Two (λ state c r. text_of_char r c)
 shape_of code instr.CharFromInt = One (λ state n. byte_or bad_char (byte_of (number_of n)))
 shape_of code instr.Write = One (λ state p. of_found (text_behind p state.regions) (λ text. Body (state.body ++ text)))
 shape_of code instr.SetType =

@@ -132,7 +132,7 @@ form_R l h q around env s a (r.App f e) =
     weaker (s2.shared.count + 1) (omega arith) (follow_R around.live x (application l around v) (application h around v) (apply_R l h q around v) (counted 1 s2))))
 form_R l h q around env s a (r.Let ds es) = then_R (q.scope around env env s r.no_rules (plan_of ds [] es)) (λ x s1. last_R x.1 s1)
 form_R l h q around env s a (r.Fn rs at) =
-    alloc_R s.shared.count around.live (serial_of around.regions at) (Closure rs around.regions (bindings_of (free_in_rules (erased_rules rs)) env)) (counted (function_words [] (erased_rules rs)) s) (omega arith)
+    alloc_R s.shared.count around.live (serial_of around.regions at) (Closure rs around.regions (bindings_of (free_in_rules (erased_rules rs)) env)) (counted (function_words (erased_rules rs)) s) (omega arith)
 form_R l h q around env s a (r.Case e rs) = then_R (q.exp around env s e) (λ v s1. rules_R l h q around env s1 rs v (match_failed around) (match_failed around) (failed_R around))
 form_R l h q around env s a (r.Handle e rs) =
     handled_R (q.exp around env s e) (λ p s1. rules_R l h q around env s1 rs p (λ s2. Raised p s2) (λ s2. Raised p s2) (λ s2. raised_R (omega arith)))

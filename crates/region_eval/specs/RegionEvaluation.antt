@@ -20,7 +20,7 @@ use Rattle.region_syntax.specs.RegionTypes.{RegionType}
 use Rattle.region_syntax.specs.RegionTerms as r
 use Rattle.region_syntax.specs.Erasure.{erased_rules, erased_defs}
 use Rattle.region_syntax.specs.Cost.{meeting, regions_of}
-use Rattle.region_syntax.specs.GroundTyping.{with_types}
+use Rattle.region_syntax.specs.GroundTypes.{with_types}
 use Rattle.region_eval.specs.RunState.{Done, Raised, Over, then_do, handled, counted, storing}
 use Rattle.region_eval.specs.FreeNames.{free_in_rules, free_in_group, function_words, group_words}
 use Rattle.region_eval.specs.RegionStore.{Value, Int, Char, Unit, Con, Address, Env, Regions, Object, Str, Tuple, Applied, Packet, PacketOf, Ref, Closure, Group, Maker, Prim, Store, Around, around_with, State, Outcome, no_rule, found, value_at, bindings_of, serial_of, serial_of_type, replaced, alloc, follow, opened}
@@ -355,7 +355,7 @@ form_result low around env s a (r.App f e) =
     then_do (low.exp around env s f) (λ h s1. then_do (low.exp around env s1 e) (λ v s2. follow around.live h (application low around v) (counted 1 s2)))
 form_result low around env s a (r.Let ds es) = then_do (low.scope around env env s r.no_rules (plan_of ds [] es)) (λ x s1. last_value x.1 s1)
 form_result low around env s a (r.Fn rs at) =
-    alloc around.live (serial_of around.regions at) (Closure rs around.regions (bindings_of (free_in_rules (erased_rules rs)) env)) (counted (function_words [] (erased_rules rs)) s)
+    alloc around.live (serial_of around.regions at) (Closure rs around.regions (bindings_of (free_in_rules (erased_rules rs)) env)) (counted (function_words (erased_rules rs)) s)
 form_result low around env s a (r.Case e rs) = then_do (low.exp around env s e) (λ v s1. rules_result low around env s1 rs v (match_failed around))
 form_result low around env s a (r.Handle e rs) = handled (low.exp around env s e) (λ p s1. rules_result low around env s1 rs p (λ s2. Raised p s2))
 form_result low around env s a (r.Raise e) = then_do (low.exp around env s e) (λ p s1. Raised p s1)

@@ -16,11 +16,11 @@ pub no_region_val : (c : Context) (ds : r.Decs) → region.are_decs c (r.vals r.
 unfolding region.are_decs region.some_rules
 no_region_val c ds = refl
 
-fails : (a b x y z : Bool) (rest : List Bool) → all_hold ((a && b && false && x && y && z) ∷ rest) ≡ false
-fails true true x y z rest = refl
-fails true false x y z rest = refl
-fails false b x y z rest = refl
+fails : (a b x y z w : Bool) (rest : List Bool) → all_hold ((a && b && false && x && y && z && w) ∷ rest) ≡ false
+fails true true x y z w rest = refl
+fails true false x y z w rest = refl
+fails false b x y z w rest = refl
 
 pub no_val_item : (once : Bool) (tables : Tables) (c : Context) (ds : r.Decs) → all_hold (item_answers once tables c (r.vals r.no_rules ds)) ≡ false
 unfolding region.some_rules item_answers
-no_val_item once tables c ds = fails once _ _ _ _ (region.bindings_answers tables c r.no_rules ++ item_answers once tables (region.bound_by_rules r.no_rules ++ c) ds)
+no_val_item once tables c ds = fails once _ _ _ _ _ (region.bindings_answers tables c r.no_rules ++ item_answers once tables (region.bound_by_rules r.no_rules ++ c) ds)

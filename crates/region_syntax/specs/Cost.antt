@@ -286,6 +286,6 @@ IsWork count work = ((n : ℕ) → count n ≤ work) × ((n : ℕ) × (count n �
 abbrev pub IsDepth : (ℕ → ℕ) → ℕ → ℕ → Type 0
 IsDepth count work depth = (count depth ≡ work) × ((n : ℕ) → count n ≡ work → depth ≤ n)
 
--- the pages' words that a request may need: `width * work / 8 + 8 * width * depth + 66`, rounded up
+-- the pages that a request may need: `width * work / 8 + 8 * width * depth + 66`, rounded up
 abbrev pub need : ℕ → ℕ → ℕ → ℕ
 need width work depth = (width * work + 7) / 8 + 8 * width * depth + 66

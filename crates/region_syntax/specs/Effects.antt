@@ -5,9 +5,9 @@ use Rattle.region_syntax.specs.declared.types.Place.{Place}
 use Rattle.region_syntax.specs.declared.types.Place.TheVariants as place
 use Rattle.region_syntax.specs.declared.types.Effect.{Effect}
 use Rattle.region_syntax.specs.GroundTypes as g
-use Rattle.region_syntax.specs.GroundTypes.{GroundType, GroundTypes}
+use Rattle.region_syntax.specs.GroundTypes.{GroundType, GroundTypes, with_types}
 use Rattle.region_syntax.specs.RegionTypes as t
-use Rattle.region_syntax.specs.RegionTypes.{RegionType, RegionTypes}
+use Rattle.region_syntax.specs.RegionTypes.{RegionType, RegionTypes, erased_types}
 
 unfoldable pub same_place : Place → Place → Bool
 same_place place.Global place.Global = true
@@ -183,7 +183,7 @@ type_at (t.types x xs) zero = Some x
 type_at (t.types x xs) (suc n) = type_at xs n
 
 -- A type that a datatype's declaration names, at arguments, a place and an effect: all its boxed parts other than the arguments
--- lie there, and its functions have this effect.
+-- lie there, and its functions have this effect. Below a cache or a description stand types without places.
 unfoldable mutual
   pub placed : RegionTypes → Place → Effect → GroundType → Option RegionType
   placed xs p e g.Int = Some t.Int
@@ -207,8 +207,8 @@ unfoldable mutual
     ref_of : Option RegionType → Option RegionType
     ref_of None = None
     ref_of (Some y) = Some (t.Ref p y)
-  placed xs p e (g.Cache a b) = Some (t.Cache p a b)
-  placed xs p e (g.Desc a) = Some (t.Desc a)
+  placed xs p e (g.Cache a b) = Some (t.Cache p (with_types (erased_types xs) a) (with_types (erased_types xs) b))
+  placed xs p e (g.Desc a) = Some (t.Desc (with_types (erased_types xs) a))
   placed xs p e (g.Var n) = type_at xs n
 
   pub placed_each : RegionTypes → Place → Effect → GroundTypes → Option RegionTypes

@@ -1,5 +1,5 @@
 -- Types without variables, as data of the definitions: the twin of `MTy`, over which functions compute.
-use Rattle.std.specs.Prelude.{ℕ, List, [], ◌∷◌}
+use Rattle.std.specs.Prelude.{ℕ, zero, suc, List, [], ◌∷◌, Option, Some, None}
 use Rattle.region_syntax.specs.declared.types.MTy.{MTy}
 use Rattle.region_syntax.specs.declared.types.MTy.TheOpen.{MTy-F}
 use Rattle.region_syntax.specs.declared.types.MTy.TheFolds.{fold-MTy}
@@ -42,3 +42,36 @@ ground_layer (MTy-F.Var number) = Var number
 -- the type that a tree is
 unfoldable pub ground_type : MTy → GroundType
 ground_type = fold-MTy GroundType ground_layer
+
+unfoldable pub many_types : GroundTypes → ℕ
+many_types no_types = 0
+many_types (types x xs) = suc (many_types xs)
+
+abbrev pub type_among : ℕ → GroundTypes → Option GroundType
+type_among n no_types = None
+type_among zero (types a ts) = Some a
+type_among (suc n) (types a ts) = type_among n ts
+
+abbrev pub type_or : GroundType → Option GroundType → GroundType
+type_or a None = a
+type_or a (Some other) = other
+
+-- a type with these in the place of a datatype's parameters
+abbrev mutual
+  pub with_types : GroundTypes → GroundType → GroundType
+  with_types ts Int = Int
+  with_types ts Char = Char
+  with_types ts Str = Str
+  with_types ts Unit = Unit
+  with_types ts Exn = Exn
+  with_types ts (Tuple us) = Tuple (each_with_types ts us)
+  with_types ts (Arrow x y) = Arrow (with_types ts x) (with_types ts y)
+  with_types ts (Data n us) = Data n (each_with_types ts us)
+  with_types ts (Ref x) = Ref (with_types ts x)
+  with_types ts (Cache x y) = Cache (with_types ts x) (with_types ts y)
+  with_types ts (Desc x) = Desc (with_types ts x)
+  with_types ts (Var n) = type_or (Var n) (type_among n ts)
+
+  pub each_with_types : GroundTypes → GroundTypes → GroundTypes
+  each_with_types ts no_types = no_types
+  each_with_types ts (types x us) = types (with_types ts x) (each_with_types ts us)

@@ -1,6 +1,6 @@
 -- The typing rules of specialised terms: a test of each node with the types that its parts carry. The Definition of Standard ML, section 4.10, without
 -- type variables; constructors and primitives are taken at the types that their nodes carry.
-use Rattle.std.specs.Prelude.{ℕ, zero, suc, nat_eq, Bool, true, false, ◌&&◌, ◌||◌, if◌then◌else◌, List, [], ◌∷◌, ◌++◌, map, Option, Some, None, codes}
+use Rattle.std.specs.Prelude.{ℕ, nat_eq, Bool, true, false, ◌&&◌, ◌||◌, if◌then◌else◌, List, [], ◌∷◌, ◌++◌, map, Option, Some, None, is_some, codes}
 use Rattle.std.specs.Option.{option_and_then, option_map, option_map_or}
 use Rattle.std.specs.List.{slice_get}
 use Rattle.std.specs.Str.{bytes_eq}
@@ -8,17 +8,18 @@ use Rattle.sml_syntax.specs.TypeTerms as s
 use Rattle.sml_syntax.specs.TypeTerms.{Schemes}
 use Rattle.sml_syntax.specs.BasisTable as b
 use Rattle.sml_syntax.specs.BasisTable.{BasisScheme, TypeName, basis_values}
-use Rattle.sml_syntax.specs.Primitives.{row_of}
+use Rattle.sml_syntax.specs.Primitives.{row_of, primitives}
 use Rattle.region_syntax.specs.declared.specialised.Constructor.{Constructor}
 use Rattle.region_syntax.specs.declared.specialised.Constructor.TheVariants as con
 use Rattle.region_syntax.specs.GroundTypes as t
-use Rattle.region_syntax.specs.GroundTypes.{GroundType, GroundTypes}
+use Rattle.region_syntax.specs.GroundTypes.{GroundType, GroundTypes, many_types, with_types}
 use Rattle.region_syntax.specs.GroundTerms as g
 use Rattle.region_syntax.specs.GroundTerms.{Datatype}
 use Rattle.region_syntax.specs.Erasure.{erased_argument}
 use Rattle.region_syntax.specs.Effects.{same_ground, same_grounds}
 use Rattle.region_syntax.specs.PrimitiveTypes.{is_datatype, is_plain}
-use Rattle.region_syntax.specs.RegionTyping.{admits, equality_choice, all_hold}
+use Rattle.region_syntax.specs.Datatypes.{type_stands}
+use Rattle.region_syntax.specs.RegionTyping.{may_compare, all_hold}
 use Rattle.region_syntax.specs.TopLevel.{basis_datatypes, basis_exceptions, begins_with, same_constructor, same_datatype}
 
 -- names with their types, the innermost first
@@ -69,39 +70,6 @@ is_list_of _ xs = false
 unfoldable pub is_bool : GroundType → Bool
 is_bool (t.Data n t.no_types) = nat_eq n 0
 is_bool _ = false
-
-unfoldable pub many_types : GroundTypes → ℕ
-many_types t.no_types = 0
-many_types (t.types x xs) = suc (many_types xs)
-
--- a type with these in the place of the parameters
-abbrev pub type_among : ℕ → GroundTypes → Option GroundType
-type_among n t.no_types = None
-type_among zero (t.types a ts) = Some a
-type_among (suc n) (t.types a ts) = type_among n ts
-
-abbrev pub type_or : GroundType → Option GroundType → GroundType
-type_or a None = a
-type_or a (Some other) = other
-
-abbrev mutual
-  pub with_types : GroundTypes → GroundType → GroundType
-  with_types ts t.Int = t.Int
-  with_types ts t.Char = t.Char
-  with_types ts t.Str = t.Str
-  with_types ts t.Unit = t.Unit
-  with_types ts t.Exn = t.Exn
-  with_types ts (t.Tuple us) = t.Tuple (each_with_types ts us)
-  with_types ts (t.Arrow x y) = t.Arrow (with_types ts x) (with_types ts y)
-  with_types ts (t.Data n us) = t.Data n (each_with_types ts us)
-  with_types ts (t.Ref x) = t.Ref (with_types ts x)
-  with_types ts (t.Cache x y) = t.Cache (with_types ts x) (with_types ts y)
-  with_types ts (t.Desc x) = t.Desc (with_types ts x)
-  with_types ts (t.Var n) = type_or (t.Var n) (type_among n ts)
-
-  pub each_with_types : GroundTypes → GroundTypes → GroundTypes
-  each_with_types ts t.no_types = t.no_types
-  each_with_types ts (t.types x us) = t.types (with_types ts x) (each_with_types ts us)
 
 -- the argument's type of a constructor whose values have this type, if it takes one
 unfoldable pub argument_of : Tables → Constructor → GroundType → Option (Option GroundType)
@@ -256,14 +224,15 @@ unfoldable mutual
 -- a primitive of the table at a type; a comparison stands only at a type whose values may be compared
 unfoldable pub comparison_fits : Tables → List ℕ → GroundType → Bool
 comparison_fits tables name (t.Arrow (t.Tuple (t.types a ts)) result) =
-    if bytes_eq name (codes "=") || bytes_eq name (codes "<>") then admits (equality_choice tables.datatypes) a else true
+    if bytes_eq name (codes "=") || bytes_eq name (codes "<>") then may_compare tables.datatypes a else true
 comparison_fits tables name _ = true
 
 unfoldable pub primitive_fits : Tables → List ℕ → GroundType → Bool
 primitive_fits tables name a =
-    option_map_or (λ row. option_map_or (λ fs. true) (row_matches row a []) false) (row_of name basis_values) false && comparison_fits tables name a
+    option_map_or (λ row. option_map_or (λ fs. true) (row_matches row a []) false) (row_of name basis_values) false
+    && is_some (row_of name primitives) && comparison_fits tables name a
 
--- whether the node's own rule holds
+-- whether the rule of a node's form holds
 unfoldable pub pat_fits : Tables → GroundType → g.PatForm → Bool
 pat_fits tables a g.AnyPat = true
 pat_fits tables a (g.NamePat name) = true
@@ -301,7 +270,7 @@ fits tables c a (g.Quote ps) = is_quotation a ps
 -- The answers of the nodes' own rules, each before those of its parts and these in order.
 unfoldable mutual
   pub pat_answers : Tables → g.Pat → List Bool
-  pat_answers tables (g.pat a form) = pat_fits tables a form ∷ pat_part_answers tables form
+  pat_answers tables (g.pat a form) = (type_stands tables.datatypes a && pat_fits tables a form) ∷ pat_part_answers tables form
 
   pub pat_part_answers : Tables → g.PatForm → List Bool
   pat_part_answers tables (g.TuplePat ps) = pats_answers tables ps
@@ -315,7 +284,7 @@ unfoldable mutual
 
 unfoldable mutual
   pub answers : Tables → Context → g.Exp → List Bool
-  answers tables c (g.exp a form) = fits tables c a form ∷ part_answers tables c form
+  answers tables c (g.exp a form) = (type_stands tables.datatypes a && fits tables c a form) ∷ part_answers tables c form
 
   pub part_answers : Tables → Context → g.Form → List Bool
   part_answers tables c (g.Tuple es) = exps_answers tables c es

@@ -6,6 +6,8 @@ pub mod Erasure
 pub mod Effects
 pub mod Cost
 pub mod PrimitiveTypes
+pub mod Datatypes
+pub mod Binders
 pub mod RegionTyping
 pub mod TopLevel
 pub mod GroundTyping

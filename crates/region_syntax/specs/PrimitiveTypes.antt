@@ -1,14 +1,14 @@
 -- The types with places that a primitive may have. Of this project, over the table of the basis.
 -- A value that a primitive makes has one place for itself and all its parts. It follows the boxed parts of its arguments that its row names; values
 -- that it compares or that a cache keeps it follows with all their parts. Making a `bool` or an `order` has no effect.
-use Rattle.std.specs.Prelude.{ℕ, nat_eq, Bool, true, false, ◌&&◌, ◌||◌, if◌then◌else◌, List, [], ◌∷◌, Option, Some, None}
+use Rattle.std.specs.Prelude.{ℕ, nat_eq, Bool, true, false, ◌&&◌, ◌||◌, if◌then◌else◌, List, [], ◌∷◌, Option, Some, None, is_some}
 use Rattle.std.specs.Option.{option_and_then, option_map_or}
 use Rattle.std.specs.List.{list_all}
 use Rattle.sml_syntax.specs.TypeTerms as s
 use Rattle.sml_syntax.specs.TypeTerms.{Schemes}
 use Rattle.sml_syntax.specs.BasisTable as b
 use Rattle.sml_syntax.specs.BasisTable.{BasisScheme, TypeName, basis_values}
-use Rattle.sml_syntax.specs.Primitives.{row_of}
+use Rattle.sml_syntax.specs.Primitives.{row_of, primitives}
 use Rattle.region_syntax.specs.declared.types.Place.{Place}
 use Rattle.region_syntax.specs.declared.types.Place.TheVariants as place
 use Rattle.region_syntax.specs.declared.types.Effect.{Effect}
@@ -123,6 +123,6 @@ unfoldable pub name_lies_there : RegionType → Bool
 name_lies_there (t.Arrow p (t.Tuple q (t.types a (t.types c (t.types (t.Str name) ts)))) e (t.Cache r k v)) = same_place name r
 name_lies_there _ = true
 
--- a primitive of the table at a type
+-- A primitive of the table at a type. `ref`, which stands in the table of the basis too, is no primitive but a constructor.
 unfoldable pub primitive_fits : List ℕ → RegionType → Bool
-primitive_fits name a = option_map_or (λ row. row_fits row a (matched [] no_effect) && name_lies_there a) (row_of name basis_values) false
+primitive_fits name a = option_map_or (λ row. row_fits row a (matched [] no_effect) && name_lies_there a) (row_of name basis_values) false && is_some (row_of name primitives)

@@ -14,8 +14,9 @@ use Rattle.region_syntax.specs.GroundTerms.{Datatype}
 use Rattle.region_syntax.specs.RegionTypes as t
 use Rattle.region_syntax.specs.RegionTypes.{RegionType, RegionTypes, erased_type}
 use Rattle.region_syntax.specs.RegionTerms as r
-use Rattle.region_syntax.specs.Effects.{same_place, is_number_in, no_effect, on, both, within, without, same_type, same_types, all_of, is_free_of, on_type, placed, place_for, effect_for, put}
+use Rattle.region_syntax.specs.Effects.{same_place, is_number_in, no_effect, on, both, within, without, same_type, same_types, all_of, is_free_of, place_of, on_type, placed, place_for, effect_for, put}
 use Rattle.region_syntax.specs.PrimitiveTypes.{primitive_fits}
+use Rattle.region_syntax.specs.Datatypes.{type_stands, are_uniform}
 
 -- what a name stands for: a type, or in a group's scope a type that binds regions and effect variables, with the place of the group's closure
 pub data Scheme : Type 0 where
@@ -123,7 +124,7 @@ unfoldable pub is_once : Context → Bool
 is_once [] = true
 is_once (c ∷ cs) = option_map_or (λ a. false) (scheme_of c.0 cs) true && is_once cs
 
--- A pattern follows a tuple, a constructor's argument, the cells of a list, and a text that it compares; an exception it follows in the global region.
+-- A pattern follows a tuple, a constructor's argument, the cells of a list that isn't empty, and a text that it compares; an exception it follows in the global region.
 unfoldable mutual
   pub pat_effect : r.Pat → Effect
   pat_effect (r.pat a form) = pat_form_effect a form
@@ -131,6 +132,7 @@ unfoldable mutual
   pub pat_form_effect : RegionType → r.PatForm → Effect
   pat_form_effect a (r.StrPat text) = on_type a
   pat_form_effect a (r.TuplePat ps) = both (on_type a) (pats_effect ps)
+  pat_form_effect a (r.ListPat r.no_pats) = no_effect
   pat_form_effect a (r.ListPat ps) = both (on_type a) (pats_effect ps)
   pat_form_effect t.Exn (r.ConPat c) = on place.Global
   pat_form_effect a (r.AppPat c p) = both (on_type a) (pat_effect p)
@@ -261,13 +263,18 @@ some_rules (r.rules p e rs) = true
 abbrev pub is_match : RegionType → RegionType → r.Rules → Bool
 is_match a b rs = some_rules rs && are_rules a b rs
 
--- a function of this type there, whose rules have an effect within the type's
-unfoldable pub is_function : Context → RegionType → Place → r.Rules → Bool
-is_function c (t.Arrow p a e b) at rs = same_place p at && is_match a b rs && within (rules_effect c rs) e
-is_function c _ at rs = false
+-- a function of this type, whose rules have an effect within the type's
+unfoldable pub is_function : Context → RegionType → r.Rules → Bool
+is_function c (t.Arrow p a e b) rs = is_match a b rs && within (rules_effect c rs) e
+is_function c _ rs = false
+
+-- a value of this type lies there
+unfoldable pub lies_at : Place → RegionType → Bool
+lies_at at a = option_map_or (same_place at) (place_of a) false
 
 -- A group, in the context of its bodies, where all its names have their whole schemes: the regions and effect variables that a function binds
 -- are free neither in what stands around, nor where a closure of the group lies, nor in a scheme of the group that doesn't bind them.
+-- An instance has a closure of its own, so the place of the function's type is another one than that of the group's closure, and may be bound.
 unfoldable pub group_is_free_of : List ℕ → List ℕ → r.Defs → Bool
 group_is_free_of rs es r.no_defs = true
 group_is_free_of rs es (r.defs head body ds) =
@@ -276,7 +283,7 @@ group_is_free_of rs es (r.defs head body ds) =
 unfoldable pub are_functions : Context → Context → r.Defs → r.Defs → Bool
 are_functions outer inner group r.no_defs = true
 are_functions outer inner group (r.defs head body ds) =
-    is_function inner head.ty head.at body && context_is_free_of head.regions head.effects outer
+    is_function inner head.ty body && context_is_free_of head.regions head.effects outer
     && group_is_free_of head.regions head.effects group && are_functions outer inner group ds
 
 abbrev pub is_group : Context → r.Defs → Bool
@@ -363,13 +370,17 @@ chosen (suc n) ds choice = chosen n ds (refined choice 0 ds)
 abbrev pub equality_choice : List Datatype → List Bool
 equality_choice ds = chosen (suc (length ds)) ds (map (λ d. true) ds)
 
+-- Values of a type may be compared: equality is theirs, and it goes through finitely many types.
+abbrev pub may_compare : List Datatype → GroundType → Bool
+may_compare ds a = admits (equality_choice ds) a && are_uniform ds a
+
 -- a comparison stands only at a type whose values may be compared
 unfoldable pub comparison_fits : Tables → List ℕ → RegionType → Bool
 comparison_fits tables name (t.Arrow p (t.Tuple q (t.types a ts)) e b) =
-    if bytes_eq name (codes "=") || bytes_eq name (codes "<>") then admits (equality_choice tables.datatypes) (erased_type a) else true
+    if bytes_eq name (codes "=") || bytes_eq name (codes "<>") then may_compare tables.datatypes (erased_type a) else true
 comparison_fits tables name _ = true
 
--- whether the node's own rule holds
+-- whether the rule of a node's form holds
 unfoldable pub pat_fits : Tables → RegionType → r.PatForm → Bool
 pat_fits tables a r.AnyPat = true
 pat_fits tables a (r.NamePat name) = true
@@ -398,7 +409,7 @@ fits tables c a (r.List_of es at) = is_list_of a at (types_of_exps es)
 fits tables c a (r.Seq es) = is_last a (types_of_exps es)
 fits tables c a (r.App f e) = is_application (type_of f) (type_of e) a
 fits tables c a (r.Let ds es) = are_decs c ds && is_last a (types_of_exps es)
-fits tables c a (r.Fn rs at) = is_function c a at rs
+fits tables c a (r.Fn rs at) = lies_at at a && is_function c a rs
 fits tables c a (r.Case e rs) = is_match (type_of e) a rs
 fits tables c a (r.Handle e rs) = same_type (type_of e) a && is_match t.Exn a rs
 fits tables c a (r.Raise e) = same_type (type_of e) t.Exn
@@ -410,10 +421,14 @@ fits tables c a (r.LetRegion rs e) = same_type (type_of e) a && is_free_of rs []
 fits tables c a (r.Fix ds e) = is_group c ds && same_type (type_of e) a
 fits tables c a (r.Inst name places effects) = is_instance (scheme_of name c) places effects a
 
+-- the datatypes of a node's type are there
+abbrev pub stands : Tables → RegionType → Bool
+stands tables a = type_stands tables.datatypes (erased_type a)
+
 -- The answers of the nodes' own rules, each before those of its parts and these in order.
 unfoldable mutual
   pub pat_answers : Tables → r.Pat → List Bool
-  pat_answers tables (r.pat a form) = pat_fits tables a form ∷ pat_part_answers tables form
+  pat_answers tables (r.pat a form) = (stands tables a && pat_fits tables a form) ∷ pat_part_answers tables form
 
   pub pat_part_answers : Tables → r.PatForm → List Bool
   pat_part_answers tables (r.TuplePat ps) = pats_answers tables ps
@@ -427,7 +442,7 @@ unfoldable mutual
 
 unfoldable mutual
   pub answers : Tables → Context → r.Exp → List Bool
-  answers tables c (r.exp a form) = fits tables c a form ∷ part_answers tables c form
+  answers tables c (r.exp a form) = (stands tables a && fits tables c a form) ∷ part_answers tables c form
 
   pub part_answers : Tables → Context → r.Form → List Bool
   part_answers tables c (r.Tuple es at) = exps_answers tables c es

@@ -1,5 +1,5 @@
 -- The rules of a program's items, and the answers of all its nodes. Of this project.
-use Rattle.std.specs.Prelude.{ℕ, nat_eq, Bool, true, false, ◌&&◌, if◌then◌else◌, List, [], ◌∷◌, ◌++◌, map, Option, Some, None, codes}
+use Rattle.std.specs.Prelude.{ℕ, nat_eq, Bool, true, false, ◌&&◌, List, [], ◌∷◌, ◌++◌, map, Option, Some, None, codes}
 use Rattle.std.specs.List.{list_all}
 use Rattle.std.specs.Str.{bytes_eq}
 use Rattle.region_syntax.specs.declared.types.Place.TheVariants as place
@@ -10,8 +10,8 @@ use Rattle.region_syntax.specs.GroundTerms.{Datatype}
 use Rattle.region_syntax.specs.RegionTypes.{RegionType}
 use Rattle.region_syntax.specs.RegionTypes as t
 use Rattle.region_syntax.specs.RegionTerms as r
-use Rattle.region_syntax.specs.Effects.{is_number_in, effect_of, on, within, same_ground, same_type, all_of}
-use Rattle.region_syntax.specs.Cost.{distinct}
+use Rattle.region_syntax.specs.Effects.{effect_of, on, within, same_ground, same_type, all_of}
+use Rattle.region_syntax.specs.Binders.{all_are_bound, around_group, bind_once, rules_binders, defs_binders, decs_binders}
 use Rattle.region_syntax.specs.RegionTyping.{Scheme, mono, poly, Context, Tables, type_of, is_val, is_group, bound_by_rules, with_group, after, shown_by, bindings_effect, group_effect, bindings_answers, defs_answers}
 
 -- the basis in front of the program's own datatypes and exceptions
@@ -85,75 +85,20 @@ unfoldable pub values_are_global : r.Rules → Bool
 values_are_global r.no_rules = true
 values_are_global (r.rules p e rs) = is_global (all_of (type_of e)) && values_are_global rs
 
--- The regions and effect variables that the groups and fresh regions of a term bind.
-unfoldable mutual
-  pub binders : r.Exp → List ℕ
-  binders (r.exp a form) = form_binders form
-
-  pub form_binders : r.Form → List ℕ
-  form_binders (r.Tuple es at) = exps_binders es
-  form_binders (r.List_of es at) = exps_binders es
-  form_binders (r.Seq es) = exps_binders es
-  form_binders (r.App f e) = binders f ++ binders e
-  form_binders (r.Let ds es) = decs_binders ds ++ exps_binders es
-  form_binders (r.Fn rs at) = rules_binders rs
-  form_binders (r.Case e rs) = binders e ++ rules_binders rs
-  form_binders (r.Handle e rs) = binders e ++ rules_binders rs
-  form_binders (r.Raise e) = binders e
-  form_binders (r.If x y z) = binders x ++ (binders y ++ binders z)
-  form_binders (r.Both x y) = binders x ++ binders y
-  form_binders (r.Either x y) = binders x ++ binders y
-  form_binders (r.Quote ps at) = pieces_binders ps
-  form_binders (r.LetRegion rs e) = rs ++ binders e
-  form_binders (r.Fix ds e) = distinct (defs_regions ds) ++ (defs_binders ds ++ binders e)
-  form_binders _ = []
-
-  pub exps_binders : r.Exps → List ℕ
-  exps_binders r.no_exps = []
-  exps_binders (r.exps e es) = binders e ++ exps_binders es
-
-  pub rules_binders : r.Rules → List ℕ
-  rules_binders r.no_rules = []
-  rules_binders (r.rules p e rs) = binders e ++ rules_binders rs
-
-  pub pieces_binders : r.Pieces → List ℕ
-  pieces_binders r.no_pieces = []
-  pieces_binders (r.plain text ps) = pieces_binders ps
-  pieces_binders (r.anti e ps) = binders e ++ pieces_binders ps
-
-  pub defs_binders : r.Defs → List ℕ
-  defs_binders r.no_defs = []
-  defs_binders (r.defs head rs ds) = rules_binders rs ++ defs_binders ds
-
-  -- the regions that the names of a group bind
-  pub defs_regions : r.Defs → List ℕ
-  defs_regions r.no_defs = []
-  defs_regions (r.defs head rs ds) = head.regions ++ defs_regions ds
-
-  pub decs_binders : r.Decs → List ℕ
-  decs_binders r.no_decs = []
-  decs_binders (r.vals bs ds) = rules_binders bs ++ decs_binders ds
-  decs_binders (r.funs group ds) = distinct (defs_regions group) ++ (defs_binders group ++ decs_binders ds)
-  decs_binders (r.locals hidden shown ds) = decs_binders hidden ++ (decs_binders shown ++ decs_binders ds)
-
--- each region is bound once, by a fresh region or by the names of one group
-unfoldable pub are_distinct : List ℕ → Bool
-are_distinct [] = true
-are_distinct (n ∷ ns) = if is_number_in n ns then false else are_distinct ns
-
 -- The answers of the items and their parts, in preorder; the declarations of a `local` are items too.
 unfoldable mutual
   pub item_answers : Bool → Tables → Context → r.Decs → List Bool
   item_answers once tables c r.no_decs = []
   item_answers once tables c (r.vals bs ds) =
-      (once && tables_fit tables && is_val bs && values_are_global bs && names_are_global (bound_by_rules bs) && is_global (bindings_effect c bs))
+      (once && tables_fit tables && is_val bs && values_are_global bs && names_are_global (bound_by_rules bs) && is_global (bindings_effect c bs) && all_are_bound (rules_binders bs))
       ∷ (bindings_answers tables c bs ++ item_answers once tables (bound_by_rules bs ++ c) ds)
   item_answers once tables c (r.funs group ds) =
-      (once && tables_fit tables && is_group c group && names_are_global (with_group group []) && is_global (group_effect group))
+      (once && tables_fit tables && is_group c group && names_are_global (with_group group []) && is_global (group_effect group)
+      && all_are_bound (around_group group (defs_binders group)))
       ∷ (defs_answers tables (with_group group c) group ++ item_answers once tables (with_group group c) ds)
   item_answers once tables c (r.locals hidden shown ds) =
       (once && tables_fit tables) ∷ (item_answers once tables c hidden ++ (item_answers once tables (after hidden c) shown ++ item_answers once tables (shown_by shown (after hidden c) ++ c) ds))
 
--- Those of a program. Where a region is bound more than once, or the basis isn't in front, every item fails.
+-- Those of a program. Where a region or an effect variable is bound more than once, or the basis isn't in front, every item fails.
 abbrev pub program_answers : r.Program → List Bool
-program_answers p = item_answers (are_distinct (decs_binders p.items)) (record { datatypes = p.datatypes; exceptions = p.exceptions }) [] p.items
+program_answers p = item_answers (bind_once (decs_binders p.items)) (record { datatypes = p.datatypes; exceptions = p.exceptions }) [] p.items
