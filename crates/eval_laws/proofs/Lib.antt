@@ -5,4 +5,4 @@ pub mod Expressions
 pub mod Levels
 pub mod UsedNames
 pub mod Square
-pub mod Hidden
+pub mod HeldNames
