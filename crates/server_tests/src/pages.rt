@@ -279,7 +279,7 @@ fn tells_the_place_in_the_file_that_holds_it(rt: HostRuntime) -> Result<(), Fail
 fn takes_the_words_of_commands(rt: HostRuntime) -> Result<(), Fail> {
     let none = "refused none 0 FileFault\n";
     let bad = "bad words\n";
-    let cases: [(&[&str], u8, &str); 15] = [
+    let cases: [(&[&str], u8, &str); 16] = [
         (&["check", "site"], 0, "ok\n"),
         (&["check", "none"], 3, none),
         (&["check", ""], 3, "refused  0 FileFault\n"),
@@ -295,12 +295,52 @@ fn takes_the_words_of_commands(rt: HostRuntime) -> Result<(), Fail> {
         (&["page", "--site", "/hello", ""], 2, bad),
         (&["page", "site", "/hello", "a=b"], 2, bad),
         (&["pages", "site", "/hello", ""], 2, bad),
+        (&["page", "site", "/hello", "", "--db=d=:memory:"], 2, bad),
     ];
     for (words, status, output) in cases {
         check(
             &rt,
             &Run {
                 words,
+                status,
+                output,
+                ..HELLO
+            },
+        )?;
+    }
+    Ok(())
+}
+
+// No word gives a database so far: a project that names one has no pages, and each other mistake of it comes first.
+#[test]
+fn refuses_databases_that_are_not_given(rt: HostRuntime) -> Result<(), Fail> {
+    let others = "refused site 0 DatabaseNames\n";
+    let named = "smlserver 1\nscript /hello hello.sml\ndatabase d\n";
+    let bare = "smlserver 1\ndatabase e\ndatabase d\n";
+    let page: &[&str] = &WORDS;
+    let absent: &[&str] = &["page", "site", "/absent", ""];
+    let check_words: &[&str] = &["check", "site"];
+    for (words, project, script, status, output) in [
+        (page, named, SCRIPT, 3, others),
+        (absent, named, SCRIPT, 3, others),
+        (page, bare, SCRIPT, 3, others),
+        (page, named, "val _ = 1", 3, others),
+        (page, named, "val _ = x", 3, "refused hello.sml 8 Unbound\n"),
+        (
+            page,
+            "smlserver 1\ndatabase d\nscript /hello none.sml\n",
+            SCRIPT,
+            3,
+            "refused none.sml 0 FileFault\n",
+        ),
+        (check_words, named, SCRIPT, 0, "ok\n"),
+    ] {
+        check(
+            &rt,
+            &Run {
+                words,
+                project,
+                script,
                 status,
                 output,
                 ..HELLO

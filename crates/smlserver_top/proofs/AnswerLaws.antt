@@ -15,8 +15,9 @@ use Rattle.smlserver_top.specs.declared.answer.Answer.{Answer}
 use Rattle.smlserver_top.specs.declared.loading.Loading.{Loading}
 use Rattle.smlserver_top.specs.declared.loading.Loading.TheVariants.{Front, Refused}
 use Rattle.smlserver_top.specs.Words.{IsPageCommand, IsCheckCommand}
+use Rattle.smlserver_top.specs.Databases.{same_names, given_by}
 use Rattle.smlserver_top.specs.Refusal.{line_of}
-use Rattle.smlserver_top.specs.Page.{programs_of, IsPathAnswer, IsLineOf, IsTypeLine, IsRefusedBy, IsTheLine, IsPageAnswer, IsCheckAnswer, IsPageOfTrees, IsUnboundAnswer}
+use Rattle.smlserver_top.specs.Page.{programs_of, IsPathAnswer, IsLoadedAnswer, IsLineOf, IsTypeLine, IsRefusedBy, IsTheLine, IsPageAnswer, IsCheckAnswer, IsPageOfTrees, IsUnboundAnswer}
 use Rattle.smlserver_top.specs.Loading.{IsCauseLoading, IsTreesLoading, IsUnboundLoading}
 use Rattle.smlserver_top.specs.Commands.{IsAnswer, of_page, of_check}
 use Rattle.smlserver_top.proofs.Programs.{front_programs}
@@ -44,8 +45,10 @@ unbound_line trees f e status text (inl same) line = (line.0, inl (ap line_of (s
 unbound_line trees f e status text (inr ill) line = let t = told_line (IsIllIn trees) f status text ill line in (t.0, inr t.1)
 
 -- the answer of a front is that of its trees
-pub of_trees : (trees : Trees) (front : LoadedFront) (path : List ℕ) (status : ℕ) (text : List ℕ) → IsFrontOf trees front → IsPathAnswer path (programs_of front) status text → IsPathAnswer path (scripts_of trees) status text
-of_trees trees front path status text is answer = subst (λ scripts. IsPathAnswer path scripts status text) (front_programs trees front is) answer
+pub of_trees : (given : List (List ℕ)) (trees : Trees) (front : LoadedFront) (project path : List ℕ) (status : ℕ) (text : List ℕ) → IsFrontOf trees front → IsLoadedAnswer (same_names given front.project.databases) project path (programs_of front) status text → IsLoadedAnswer (same_names given trees.project.databases) project path (scripts_of trees) status text
+of_trees given trees front project path status text is answer =
+    subst (λ scripts. IsLoadedAnswer (same_names given trees.project.databases) project path scripts status text) (front_programs trees front is)
+    (subst (λ lines. IsLoadedAnswer (same_names given lines.databases) project path (programs_of front) status text) is.project_is answer)
 
 -- the answer that a project isn't loaded, where its name is the copy of another
 pub told_refused : (contents : Contents) (before after : ℕ) (project name : List ℕ) (e : LoadRefusal) (status : ℕ) (text : List ℕ) → name ≡ project → IsTold (FrontCause contents before after name) e → IsTheLine e status text → (status ≡ 3) × IsRefusedBy contents before after project text
@@ -64,9 +67,9 @@ pub unbound_loaded : (contents : Contents) (project name : List ℕ) (trees : Tr
 unbound_loaded contents project name trees front e same has unbound gives = gives trees (subst (λ p. HasTrees contents p trees) (sym same) has) e unbound
 
 -- a project as it is loaded
-pub front_of_trees : (trees : Trees) (loading : Loading) (front : LoadedFront) (path : List ℕ) (r : Result Answer NoMemory) → loading ≡ Front front → IsTreesLoading trees loading → IfOk r (λ a. IsPathAnswer path (programs_of front) a.status a.text) → IfOk r (λ a. IsPageOfTrees trees path a.status a.text)
-front_of_trees trees loading front path (Err e) is loaded answer = tt
-front_of_trees trees loading front path (Ok a) is loaded answer = inl (of_trees trees front path a.status a.text (subst (IsTreesLoading trees) is loaded) answer)
+pub front_of_trees : (given : List (List ℕ)) (trees : Trees) (loading : Loading) (front : LoadedFront) (project path : List ℕ) (r : Result Answer NoMemory) → loading ≡ Front front → IsTreesLoading trees loading → IfOk r (λ a. IsLoadedAnswer (same_names given front.project.databases) project path (programs_of front) a.status a.text) → IfOk r (λ a. IsPageOfTrees given trees project path a.status a.text)
+front_of_trees given trees loading front project path (Err e) is loaded answer = tt
+front_of_trees given trees loading front project path (Ok a) is loaded answer = inl (of_trees given trees front project path a.status a.text (subst (IsTreesLoading trees) is loaded) answer)
 
 pub front_unbound : (trees : Trees) (e : LoadRefusal) (loading : Loading) (front : LoadedFront) → loading ≡ Front front → IsUnboundLoading trees e loading → ⊥
 front_unbound trees e loading front is loaded = subst (IsUnboundLoading trees e) is loaded
@@ -85,7 +88,7 @@ pub refused_cause : (e : LoadRefusal) (loading : Loading) (a : Answer) → loadi
 refused_cause e loading a is loaded = subst (IsCauseLoading e) is loaded
 
 -- the answers by the words
-pub page_told : (contents : Contents) (before after : ℕ) (words : List (List ℕ)) (project path : List ℕ) (r : Result Answer NoMemory) → IsPageCommand words project path → IfOk r (λ a. IsPageAnswer contents before after project path a.status a.text) → IfOk r (λ a. IsAnswer contents before after words a.status a.text)
+pub page_told : (contents : Contents) (before after : ℕ) (words : List (List ℕ)) (project path : List ℕ) (r : Result Answer NoMemory) → IsPageCommand words project path → IfOk r (λ a. IsPageAnswer contents before after (given_by words) project path a.status a.text) → IfOk r (λ a. IsAnswer contents before after words a.status a.text)
 page_told contents before after words project path (Err e) w told = tt
 page_told contents before after words project path (Ok a) w told = of_page project path w told
 

@@ -1,8 +1,9 @@
 -- The answer of a script by its parts.
-use Rattle.std.proofs.Common.{◌≡◌, ℕ, List, [], map, Some, None, Result, Ok, Err, refl, ap, sym, ◌∙◌, inl, inr, subst}
+use Rattle.std.proofs.Common.{◌≡◌, ℕ, Bool, true, false, List, [], map, Some, None, Result, Ok, Err, refl, ap, sym, ◌∙◌, inl, inr, subst}
 use Rattle.std.specs.Prelude.{IfOk}
 use Rattle.std.specs.Option.{option_map}
 use Rattle.sml_syntax.specs.declared.text.NoMemory.{NoMemory}
+use Rattle.script_loader.specs.declared.refusal.LoadRefusal.TheVariants as refusal
 use Rattle.script_loader.specs.declared.front.FrontScript.{FrontScript}
 use Rattle.smlserver_top.specs.declared.answer.Answer.{Answer}
 use Rattle.smlserver_top.specs.Script.{script_in}
@@ -14,7 +15,7 @@ use Rattle.smlserver_top.specs.declared.part.Part.{Part}
 use Rattle.smlserver_top.specs.Straight.{IsStraight}
 use Rattle.smlserver_top.specs.Parts.{text_of}
 use Rattle.smlserver_top.specs.Refusal.{not_built_line}
-use Rattle.smlserver_top.specs.Page.{program_of, script_at, own_items, no_script_body, HasNoParts, IsScriptAnswer, IsPathAnswer}
+use Rattle.smlserver_top.specs.Page.{program_of, script_at, own_items, no_script_body, HasNoParts, IsTheLine, IsScriptAnswer, IsPathAnswer, IsLoadedAnswer}
 use Rattle.smlserver_top.proofs.Evaluated.{straight_page}
 
 -- the evaluation of straight declarations gives the text of their parts
@@ -50,3 +51,12 @@ none_answer path scripts items (Err e) found same answer = tt
 none_answer path scripts items (Ok a) found same answer =
     let at : script_at path (map program_of scripts) ≡ None = found_at path scripts ∙ ap (option_map program_of) (sym (found ∙ ap (script_in path) same)) in
     subst (λ o. IsScriptAnswer o a.status a.text) (sym at) (ap (λ (b : Answer). b.status) answer, ap (λ (b : Answer). b.text) answer)
+
+-- a project that is loaded, by whether the databases that are given are those that it names
+pub names_agree : (agree : Bool) (project path : List ℕ) (scripts : List Script) (r : Result Answer NoMemory) → agree ≡ true → IfOk r (λ a. IsPathAnswer path scripts a.status a.text) → IfOk r (λ a. IsLoadedAnswer agree project path scripts a.status a.text)
+names_agree agree project path scripts (Err e) is answer = tt
+names_agree agree project path scripts (Ok a) is answer = subst (λ b. IsLoadedAnswer b project path scripts a.status a.text) (sym is) answer
+
+pub names_are_others : (agree : Bool) (project path : List ℕ) (scripts : List Script) (r : Result Answer NoMemory) → agree ≡ false → IfOk r (λ a. IsTheLine (refusal.DatabaseNames project 0) a.status a.text) → IfOk r (λ a. IsLoadedAnswer agree project path scripts a.status a.text)
+names_are_others agree project path scripts (Err e) is answer = tt
+names_are_others agree project path scripts (Ok a) is answer = subst (λ b. IsLoadedAnswer b project path scripts a.status a.text) (sym is) answer

@@ -1,16 +1,18 @@
 -- The answers of the commands: of `page` by the scripts of a project, and of both where a project isn't loaded.
-use Rattle.std.specs.Prelude.{◌≡◌, ◌⊎◌, ℕ, List, [], ◌∷◌, ◌++◌, drop, map, Option, Some, None, if◌then◌else◌, codes}
+use Rattle.std.specs.Prelude.{◌≡◌, ◌⊎◌, ℕ, Bool, true, false, List, [], ◌∷◌, ◌++◌, drop, map, Option, Some, None, if◌then◌else◌, codes}
 use Rattle.std.specs.Str.{bytes_eq}
 use Rattle.outside_world.specs.Told.{Contents}
 use Rattle.sml_syntax.specs.declared.tree.Dec.{Dec}
 use Rattle.sml_syntax.specs.Page.{PageOf, Finished, html_type}
 use Rattle.script_loader.specs.declared.refusal.LoadRefusal.{LoadRefusal}
+use Rattle.script_loader.specs.declared.refusal.LoadRefusal.TheVariants as refusal
 use Rattle.script_loader.specs.Seen.{Trees, Script}
 use Rattle.script_loader.specs.declared.front.LoadedFront.{LoadedFront}
 use Rattle.script_loader.specs.declared.front.FrontScript.{FrontScript}
 use Rattle.script_loader.specs.Scripts.{scripts_of}
 use Rattle.script_loader.specs.Front.{HasFront, FrontCause, TypeCause, IsIllIn}
 use Rattle.smlserver_top.specs.declared.part.Part.{Part}
+use Rattle.smlserver_top.specs.Databases.{same_names}
 use Rattle.smlserver_top.specs.Straight.{IsStraight}
 use Rattle.smlserver_top.specs.Refusal.{line_of, not_built_line}
 
@@ -54,6 +56,10 @@ IsScriptAnswer (Some script) status text = ((status ≡ 0) × HasBody script tex
 abbrev pub IsPathAnswer : List ℕ → List Script → ℕ → List ℕ → Type 0
 IsPathAnswer path scripts status text = IsScriptAnswer (script_at path scripts) status text
 
+-- a refusal, and no other
+abbrev pub IsTheLine : LoadRefusal → ℕ → List ℕ → Type 0
+IsTheLine e status text = (status ≡ 3) × (line_of e ≡ Some text)
+
 -- the line of a refusal with a cause
 abbrev pub IsLineOf : (LoadRefusal → Type 0) → List ℕ → Type 0
 IsLineOf Cause line = (e : LoadRefusal) × Cause e × (line_of e ≡ Some line)
@@ -69,10 +75,15 @@ IsIllLine trees line = IsLineOf (IsIllIn trees) line
 abbrev pub IsRefusedBy : Contents → ℕ → ℕ → List ℕ → List ℕ → Type 0
 IsRefusedBy contents before after project line = IsLineOf (FrontCause contents before after project) line
 
--- what `page` answers of a project and a path
-abbrev pub IsPageAnswer : Contents → ℕ → ℕ → List ℕ → List ℕ → ℕ → List ℕ → Type 0
-IsPageAnswer contents before after project path status text =
-    ((front : LoadedFront) × HasFront contents project front × IsPathAnswer path (programs_of front) status text)
+-- what `page` answers of a project that is loaded, by whether the databases that are given are those that it names
+abbrev pub IsLoadedAnswer : Bool → List ℕ → List ℕ → List Script → ℕ → List ℕ → Type 0
+IsLoadedAnswer false project path scripts status text = IsTheLine (refusal.DatabaseNames project 0) status text
+IsLoadedAnswer true project path scripts status text = IsPathAnswer path scripts status text
+
+-- what `page` answers of a project and a path where databases of these names are given
+abbrev pub IsPageAnswer : Contents → ℕ → ℕ → List (List ℕ) → List ℕ → List ℕ → ℕ → List ℕ → Type 0
+IsPageAnswer contents before after given project path status text =
+    ((front : LoadedFront) × HasFront contents project front × IsLoadedAnswer (same_names given front.project.databases) project path (programs_of front) status text)
     ⊎ ((status ≡ 3) × IsRefusedBy contents before after project text)
 
 -- the line of a project without a mistake
@@ -89,15 +100,12 @@ IsCheckAnswer contents before after project status text =
     ((status ≡ 0) × IsLoaded contents project × (text ≡ ok_line)) ⊎ ((status ≡ 3) × IsRefusedBy contents before after project text)
 
 -- what they answer where the project has these trees
-abbrev pub IsPageOfTrees : Trees → List ℕ → ℕ → List ℕ → Type 0
-IsPageOfTrees trees path status text = IsPathAnswer path (scripts_of trees) status text ⊎ ((status ≡ 3) × IsTypeLine trees text)
+abbrev pub IsPageOfTrees : List (List ℕ) → Trees → List ℕ → List ℕ → ℕ → List ℕ → Type 0
+IsPageOfTrees given trees project path status text =
+    IsLoadedAnswer (same_names given trees.project.databases) project path (scripts_of trees) status text ⊎ ((status ≡ 3) × IsTypeLine trees text)
 
 abbrev pub IsCheckOfTrees : Trees → ℕ → List ℕ → Type 0
 IsCheckOfTrees trees status text = ((status ≡ 0) × (text ≡ ok_line)) ⊎ ((status ≡ 3) × IsTypeLine trees text)
-
--- a refusal, and no other
-abbrev pub IsTheLine : LoadRefusal → ℕ → List ℕ → Type 0
-IsTheLine e status text = (status ≡ 3) × (line_of e ≡ Some text)
 
 -- what they answer where a name of the scripts has no binding: that, or an item of an earlier script without a typing
 abbrev pub IsUnboundAnswer : Trees → LoadRefusal → ℕ → List ℕ → Type 0

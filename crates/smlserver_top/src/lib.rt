@@ -4,6 +4,7 @@
 mod answer;
 mod commands;
 mod compile;
+mod databases;
 mod explanation;
 mod loading;
 mod machine;

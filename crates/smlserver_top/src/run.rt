@@ -6,8 +6,9 @@ ghost use Rattle.script_loader.specs.Front.{IsUnboundIn};
 ghost use Rattle.script_loader.specs.Seen.{Trees};
 ghost use Rattle.script_loader.specs.declared.refusal.LoadRefusal.{LoadRefusal as RefusalSeen};
 ghost use Rattle.smlserver_top.specs.Words.{IsPageCommand, IsCheckCommand, AsksFor, AreBadWords};
+ghost use Rattle.smlserver_top.specs.Databases.{given_by};
 ghost use Rattle.smlserver_top.specs.Page.{no_script_body, ok_line, IsLoaded, IsTheLine, IsPageOfTrees, IsCheckOfTrees, IsUnboundAnswer};
-ghost use Rattle.smlserver_top.specs.Commands.{bad_words_line, IsStatus, IsPage, IsNotFound, IsNotBuilt, IsRefused, IsAnswer, IsText, IsEnd, IsUnfinished};
+ghost use Rattle.smlserver_top.specs.Commands.{bad_words_line, IsStatus, IsPage, IsNotFound, AreOtherNames, IsNotBuilt, IsRefused, IsAnswer, IsText, IsEnd, IsUnfinished};
 
 use crate::commands::words_answer;
 use outside_world::{Clock, Files, Sink, Source, WriteRefusal, write_all};
@@ -42,7 +43,7 @@ fn write_answer<F: Files, K: Sink>(
     ensures cause_where { AreSure (F.contents files.old) (F.file_count files.old) (F.file_count files.new) → (project : List ℕ) → (e : RefusalSeen) → AsksFor (map (λ w. w.now) words.now) project → LoadCause (F.contents files.old) (F.file_count files.old) (F.file_count files.new) project e
         → IsEnd result (λ text. K.written output.new ≡ grown (K.written output.old) text) (IsTheLine e) }
     ensures page_where { AreSure (F.contents files.old) (F.file_count files.old) (F.file_count files.new) → (project : List ℕ) → (path : List ℕ) → (trees : Trees) → IsPageCommand (map (λ w. w.now) words.now) project path → HasTrees (F.contents files.old) project trees
-        → IsEnd result (λ text. K.written output.new ≡ grown (K.written output.old) text) (IsPageOfTrees trees path) }
+        → IsEnd result (λ text. K.written output.new ≡ grown (K.written output.old) text) (IsPageOfTrees (given_by (map (λ w. w.now) words.now)) trees project path) }
     ensures check_where { AreSure (F.contents files.old) (F.file_count files.old) (F.file_count files.new) → (project : List ℕ) → (trees : Trees) → IsCheckCommand (map (λ w. w.now) words.now) project → HasTrees (F.contents files.old) project trees
         → IsEnd result (λ text. K.written output.new ≡ grown (K.written output.old) text) (IsCheckOfTrees trees) }
     ensures unbound_where { AreSure (F.contents files.old) (F.file_count files.old) (F.file_count files.new) → (project : List ℕ) → (trees : Trees) → AsksFor (map (λ w. w.now) words.now) project → HasTrees (F.contents files.old) project trees → (e : RefusalSeen) → IsUnboundIn trees e
@@ -78,10 +79,12 @@ pub fn run_words<F: Files, S: Source, K: Sink, C: Clock>(
         × (K.written output.new ≡ grown (K.written output.old) bad_words_line) }
     ensures bad_words_only { AreBadWords (map (λ w. w.now) words.now) → (result ≡ 2) ⊎ ((result ≡ 4) ⊎ (result ≡ 7)) }
 
-    // 3: the project isn't loaded, by the line that names the file, the place and the refusal; or its script isn't run.
+    // 3: the project isn't loaded, by the line that names the file, the place and the refusal; or it names other databases than
+    // are given; or its script isn't run.
     ensures refused { result ≡ 3 → (line : List ℕ)
         × (IsRefused (F.contents files.old) (F.file_count files.old) (F.file_count files.new) (map (λ w. w.now) words.now) line
-        ⊎ IsNotBuilt (F.contents files.old) (map (λ w. w.now) words.now) line)
+        ⊎ (AreOtherNames (F.contents files.old) (map (λ w. w.now) words.now) line
+        ⊎ IsNotBuilt (F.contents files.old) (map (λ w. w.now) words.now) line))
         × (K.written output.new ≡ grown (K.written output.old) line) }
 
     // Where the files tell what they hold and no read fails, what refuses the project up to its trees is told, and nothing else.
@@ -92,9 +95,10 @@ pub fn run_words<F: Files, S: Source, K: Sink, C: Clock>(
     ensures unbound_where { AreSure (F.contents files.old) (F.file_count files.old) (F.file_count files.new) → (project : List ℕ) → (trees : Trees) → AsksFor (map (λ w. w.now) words.now) project → HasTrees (F.contents files.old) project trees → (e : RefusalSeen) → IsUnboundIn trees e
         → IsEnd result (λ text. K.written output.new ≡ grown (K.written output.old) text) (IsUnboundAnswer trees e) }
 
-    // And by the trees of the project the script under the path decides which of 0, 1 and 3 it is, unless a script isn't typed.
+    // And by the trees of the project its databases and the script under the path decide which of 0, 1 and 3 it is, unless a
+    // script isn't typed.
     ensures page_where { AreSure (F.contents files.old) (F.file_count files.old) (F.file_count files.new) → (project : List ℕ) → (path : List ℕ) → (trees : Trees) → IsPageCommand (map (λ w. w.now) words.now) project path → HasTrees (F.contents files.old) project trees
-        → IsEnd result (λ text. K.written output.new ≡ grown (K.written output.old) text) (IsPageOfTrees trees path) }
+        → IsEnd result (λ text. K.written output.new ≡ grown (K.written output.old) text) (IsPageOfTrees (given_by (map (λ w. w.now) words.now)) trees project path) }
     ensures check_where { AreSure (F.contents files.old) (F.file_count files.old) (F.file_count files.new) → (project : List ℕ) → (trees : Trees) → IsCheckCommand (map (λ w. w.now) words.now) project → HasTrees (F.contents files.old) project trees
         → IsEnd result (λ text. K.written output.new ≡ grown (K.written output.old) text) (IsCheckOfTrees trees) }
 
@@ -103,13 +107,13 @@ pub fn run_words<F: Files, S: Source, K: Sink, C: Clock>(
     ensures unfinished { (result ≡ 4) ⊎ (result ≡ 7) → IsUnfinished (K.written output.old) (K.written output.new)
         (IsText (F.contents files.old) (F.file_count files.old) (F.file_count files.new) (map (λ w. w.now) words.now)) }
 
-    // 1: the project is loaded and has no script under the path.
+    // 1: the project is loaded, the databases are given that it names, and it has no script under the path.
     ensures not_found { result ≡ 1 → IsNotFound (F.contents files.old) (map (λ w. w.now) words.now)
         × (K.written output.new ≡ grown (K.written output.old) no_script_body) }
 
     // 0: the output grew by the body of the page of the files, or by the line of a project that is loaded.
     ensures page { (project : List ℕ) → (path : List ℕ) → IsPageCommand (map (λ w. w.now) words.now) project path → result ≡ 0 → (body : List ℕ)
-        × IsPage (F.contents files.old) project path body
+        × IsPage (F.contents files.old) (given_by (map (λ w. w.now) words.now)) project path body
         × (K.written output.new ≡ grown (K.written output.old) body) }
     ensures checked { (project : List ℕ) → IsCheckCommand (map (λ w. w.now) words.now) project → result ≡ 0
         → IsLoaded (F.contents files.old) project × (K.written output.new ≡ grown (K.written output.old) ok_line) }

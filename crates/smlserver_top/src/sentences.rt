@@ -60,7 +60,7 @@ const NAMES: [(&str, &str); 19] = [
     ),
     (
         "DatabaseNames",
-        "the databases that were handed in aren't those of the project; hand in one for each of its `database` lines, under its name, and no other",
+        "the databases that were handed in aren't those of the project; hand in one for each of its `database` lines, under its name, and no other (so far no word hands one in: take these lines out)",
     ),
     (
         "TooLarge",

@@ -3,7 +3,7 @@ use Rattle.smlserver_top.proofs.AnswerLaws.{front_cause, refused_cause, front_of
 use Rattle.smlserver_top.proofs.commands.page_answer.Goals as goal
 
 pub returns-in-Front-clause-trees_where : goal.returns-in-Front-clause-trees_where
-returns-in-Front-clause-trees_where g c sure trees has = front_of_trees _ _ _ _ _ c.in-Front.is (c.in_ok-front.ensures.trees_where sure trees has) c.path_answer.ensures
+returns-in-Front-clause-trees_where g c sure trees has = front_of_trees _ _ _ _ _ _ _ c.in-Front.is (c.in_ok-front.ensures.trees_where sure trees has) c.loaded_answer.ensures
 
 pub returns-in-Front-clause-unbound_where : goal.returns-in-Front-clause-unbound_where
 returns-in-Front-clause-unbound_where g c sure trees has e unbound = absurd (front_unbound _ _ _ _ c.in-Front.is (c.in_ok-front.ensures.unbound_where sure trees has e unbound))

@@ -1,9 +1,9 @@
 use Rattle.std.proofs.Common.{sym, subst}
-use Rattle.std.specs.Prelude.{IfOk}
+use Rattle.std.specs.Prelude.{[], IfOk}
 use Rattle.script_loader.specs.Cause.{LoadCause, HasTrees}
 use Rattle.smlserver_top.specs.Page.{IsPageOfTrees}
 use Rattle.smlserver_top.proofs.AnswerLaws.{page_told, check_told}
-use Rattle.smlserver_top.proofs.EndLaws.{same_words, same_check, page_or_check, page_project, check_project}
+use Rattle.smlserver_top.proofs.EndLaws.{same_words, of_page_words, same_check, page_or_check, page_project, check_project}
 use Rattle.smlserver_top.proofs.commands.words_answer.Goals as goal
 
 pub returns-in-Some-clause-told : goal.returns-in-Some-clause-told
@@ -17,7 +17,7 @@ returns-in-Some-clause-cause_where g c sure project e asks cause =
 pub returns-in-Some-clause-page_where : goal.returns-in-Some-clause-page_where
 returns-in-Some-clause-page_where g c sure project path trees asked has =
     let same = same_words _ _ _ _ _ c.in-Some.ensures.found asked in
-    subst (λ q. IfOk c.page_answer.result (λ a. IsPageOfTrees trees q a.status a.text)) same.1
+    of_page_words _ _ _ _ _ (λ p q. IfOk c.page_answer.result (λ a. IsPageOfTrees [] trees p q a.status a.text)) c.in-Some.ensures.found asked
     (c.page_answer.ensures.trees_where sure trees (subst (λ p. HasTrees (g.F.Files.contents c.args.files.now) p trees) (sym same.0) has))
 
 pub returns-in-Some-clause-check_where : goal.returns-in-Some-clause-check_where
