@@ -17,7 +17,7 @@ pub enum LoadRefusal {
     ProjectLine { file: Text, place: u64 },
     /// The path of a script stands in an earlier line.
     TwoPaths { file: Text, place: u64 },
-    /// The databases that were handed in aren't those of the project. No step answers it yet.
+    /// The databases that were handed in aren't those of the project. `page` answers it, and the loader never does.
     DatabaseNames { file: Text, place: u64 },
     /// The project file and its files have more than 1,048,576 bytes together. It names the project file.
     TooLarge { file: Text, place: u64 },
