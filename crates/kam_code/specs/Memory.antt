@@ -97,9 +97,14 @@ of_each f (x ∷ xs) = and_both (λ y ys. y ∷ ys) (f x) (of_each f xs)
 abbrev pub texts_at : ℕ → List Region → Option (List (List ℕ))
 texts_at word regions = option_and_then (of_each (λ p. text_behind p regions)) (list_at word regions)
 
--- the text of a piece of a quotation: `QUOTE` and `ANTIQUOTE` have one argument each
+-- the index of a constructor, if it is below that one
+abbrev pub index_below : ℕ → Option ℕ → Option ℕ
+index_below end index = option_and_then (λ i. if nat_lt i end then Some i else None) index
+
+-- the text of a piece of a quotation: `QUOTE`, index 0, and `ANTIQUOTE`, index 1, have one argument each
 abbrev pub piece_at : ℕ → List Region → Option (List ℕ)
-piece_at word regions = option_and_then (λ p. text_behind p regions) (field_at word 1 regions)
+piece_at word regions =
+    option_and_then (λ i. option_and_then (λ p. text_behind p regions) (field_at word 1 regions)) (index_below 2 (field_at word 0 regions))
 
 -- the texts of a quotation's pieces
 abbrev pub pieces_at : ℕ → List Region → Option (List (List ℕ))
@@ -107,24 +112,29 @@ pieces_at word regions = option_and_then (of_each (λ p. piece_at p regions)) (l
 
 -- the argument of an option: 0 is `NONE`, and `SOME` has the index 1
 abbrev pub option_at : ℕ → List Region → Option (Option ℕ)
-option_at word regions = if is_pointer word then option_map Some (field_at word 1 regions) else Some None
+option_at word regions =
+    if word == 0 then Some None
+    else option_and_then (λ i. if i == 1 then option_map Some (field_at word 1 regions) else None) (field_at word 0 regions)
 
 -- ---- data
 
--- the datum of a description that a word stands for, by the description's form, with what its parts read; a character is below 256
+-- the datum of a description that a word stands for, by the description's form, with what its parts read; a bool is below 2, a character below 256,
+-- and unit is 0
 abbrev pub datum_by : Desc-F (ℕ → List Region → Option Datum) → ℕ → List Region → Option Datum
 datum_by Desc-F.Int word regions = Some (datum.Int (number_of word))
-datum_by Desc-F.Bool word regions = Some (datum.Bool (word == 1))
+datum_by Desc-F.Bool word regions = if nat_lt word 2 then Some (datum.Bool (word == 1)) else None
 datum_by Desc-F.Char word regions = if nat_lt word 256 then Some (datum.Char word) else None
 datum_by Desc-F.Str word regions = option_map datum.Str (text_behind word regions)
-datum_by Desc-F.Unit word regions = Some datum.Unit
+datum_by Desc-F.Unit word regions = if word == 0 then Some datum.Unit else None
 datum_by (Desc-F.Pair a b) word regions =
     and_both datum.Pair (option_and_then (λ w. a w regions) (field_at word 0 regions)) (option_and_then (λ w. b w regions) (field_at word 1 regions))
 datum_by (Desc-F.Triple a b c) word regions =
     all_three datum.Triple (option_and_then (λ w. a w regions) (field_at word 0 regions)) (option_and_then (λ w. b w regions) (field_at word 1 regions))
     (option_and_then (λ w. c w regions) (field_at word 2 regions))
-datum_by (Desc-F.Opt a) word regions =
-    if is_pointer word then option_map (λ x. datum.Opt (Some x)) (option_and_then (λ w. a w regions) (field_at word 1 regions)) else Some (datum.Opt None)
+datum_by (Desc-F.Opt a) word regions = option_and_then (λ argument. of_argument argument) (option_at word regions) where
+  of_argument : Option ℕ → Option Datum
+  of_argument None = Some (datum.Opt None)
+  of_argument (Some w) = option_map (λ x. datum.Opt (Some x)) (a w regions)
 datum_by (Desc-F.List a) word regions = option_map datum.List (option_and_then (of_each (λ w. a w regions)) (list_at word regions))
 
 -- the datum that a word stands for

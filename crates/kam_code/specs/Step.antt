@@ -27,7 +27,7 @@ use Rattle.kam_code.specs.declared.code.Code.{Code}
 use Rattle.kam_code.specs.declared.instr.Instr.{Instr}
 use Rattle.kam_code.specs.declared.instr.Instr.TheVariants as instr
 use Rattle.kam_code.specs.Layout.{text_words}
-use Rattle.kam_code.specs.Memory.{region_words, with_more, pointer, is_pointer, text_behind, field_at, with_field, list_at, texts_at, pieces_at, option_at, datum_at, Laid, laid_datum, number_of_bool, cache_words, cache_at}
+use Rattle.kam_code.specs.Memory.{region_words, with_more, pointer, is_pointer, text_behind, field_at, with_field, list_at, texts_at, pieces_at, index_below, option_at, datum_at, Laid, laid_datum, number_of_bool, cache_words, cache_at}
 use Rattle.kam_code.specs.State.{Region, Frame, Handler, State, start}
 use Rattle.kam_code.specs.Word.{word_of, number_of, fits, spelling}
 
@@ -238,7 +238,7 @@ abbrev pub cache_made : ℕ → ℕ → ℕ → State → Result
 cache_made name kind r state =
     of_found (text_behind name state.regions) (λ text.
     if is_cache_name text then
-    of_found (field_at kind 0 state.regions) (λ index.
+    of_found (index_below 2 (field_at kind 0 state.regions)) (λ index.
     of_found (field_at kind 1 state.regions) (λ limits.
     of_found (option_and_then (λ w. optional_number w state.regions) (field_at limits 0 state.regions)) (λ time.
     of_found (option_and_then (λ w. optional_number w state.regions) (field_at limits 1 state.regions)) (λ size.

@@ -10,9 +10,9 @@ use Rattle.region_syntax.specs.RegionTypes.{RegionType}
 use Rattle.region_syntax.specs.RegionTerms as r
 use Rattle.region_syntax.specs.Erasure.{erased_rules, erased_defs}
 use Rattle.region_eval.specs.RunState.{Raised, counted}
-use Rattle.region_eval.specs.FreeNames.{free_in_rules, free_in_group, function_words, group_words}
+use Rattle.region_eval.specs.FreeNames.{function_words, group_words}
 use Rattle.region_eval.specs.RegionStore.{Value, Con, Env, Object, Str, Tuple, Applied, Packet, PacketOf, Ref, Closure, Group, Maker, Prim, Around, around_with, State, Outcome, value_at, bindings_of, serial_of, serial_of_type}
-use Rattle.region_eval.specs.RegionEvaluation.{Evaluator, Level, Shows, Plan, plan_of, each_value, last_of, last_value, each_piece, cells, list_result, chosen, rules_result, thrown, match_failed, constructor_result, constructed, application, group_addresses, group_made, group_bound, bound_regions, instance_result, by_bool, form_result, bound_more, with_binding, with_dec, Coming, Comes, Ends, coming, with_coming, scope_result}
+use Rattle.region_eval.specs.RegionEvaluation.{Evaluator, Level, Shows, Plan, plan_of, each_value, last_of, last_value, each_piece, cells, list_result, chosen, rules_result, thrown, match_failed, constructor_result, constructed, application, group_addresses, group_made, group_bound, bound_regions, instance_result, held_by, by_bool, form_result, bound_more, with_binding, with_dec, Coming, Comes, Ends, coming, with_coming, scope_result}
 use Rattle.region_eval.proofs.Relations.{done_R, raised_R, no_rule_R, weaker, if_R, then_R, handled_R}
 use Rattle.region_eval.proofs.RegionPatterns.{S, found_R, alloc_R, follow_R, Matches, Compares}
 use Rattle.region_eval.proofs.RegionRows.{application_R, named_R}
@@ -98,15 +98,15 @@ apply_R l h q around v _ s = no_rule_R (omega arith)
 made_R : {k : ℕ} (around : Around) (env addresses : Env) (group : r.Defs) (s : State) → S k s.shared.count (group_made around env addresses group s) (group_made around env addresses group s)
 made_R around env addresses r.no_defs s = done_R (omega arith)
 made_R around env addresses (r.defs head rs ds) s =
-    then_R (alloc_R s.shared.count around.live (serial_of around.regions head.at) (Group head.regions rs around.regions env addresses) s (omega arith)) (λ v s1. made_R around env addresses ds s1)
+    then_R (alloc_R s.shared.count around.live (serial_of around.regions head.at) (Group head.regions rs around.regions (held_by rs (addresses ++ env))) s (omega arith)) (λ v s1. made_R around env addresses ds s1)
 
 group_R : {k : ℕ} (around : Around) (env : Env) (group : r.Defs) (s : State) → S k s.shared.count (group_bound around env group s) (group_bound around env group s)
 group_R around env group s =
-    made_R around (bindings_of (free_in_group (erased_defs group)) env) (group_addresses around (λ p. length (s.store.objects p)) group) group s
+    made_R around env (group_addresses around (λ p. length (s.store.objects p)) group) group s
 
 instance_R : {k : ℕ} (around : Around) (a : RegionType) (places : List Place) (o : Object) (s : State) → S k s.shared.count (instance_result around a places o s) (instance_result around a places o s)
-instance_R around a places (Group bound rs regions env addresses) s =
-    alloc_R s.shared.count around.live (serial_of_type around.regions a) (Closure rs (bound_regions around.regions regions bound places) (addresses ++ env)) s (omega arith)
+instance_R around a places (Group bound rs regions env) s =
+    alloc_R s.shared.count around.live (serial_of_type around.regions a) (Closure rs (bound_regions around.regions regions bound places) env) s (omega arith)
 instance_R around a places _ s = no_rule_R (omega arith)
 
 -- ---- expressions
@@ -132,7 +132,7 @@ form_R l h q around env s a (r.App f e) =
     weaker (s2.shared.count + 1) (omega arith) (follow_R around.live x (application l around v) (application h around v) (apply_R l h q around v) (counted 1 s2))))
 form_R l h q around env s a (r.Let ds es) = then_R (q.scope around env env s r.no_rules (plan_of ds [] es)) (λ x s1. last_R x.1 s1)
 form_R l h q around env s a (r.Fn rs at) =
-    alloc_R s.shared.count around.live (serial_of around.regions at) (Closure rs around.regions (bindings_of (free_in_rules (erased_rules rs)) env)) (counted (function_words (erased_rules rs)) s) (omega arith)
+    alloc_R s.shared.count around.live (serial_of around.regions at) (Closure rs around.regions (held_by rs env)) (counted (function_words (erased_rules rs)) s) (omega arith)
 form_R l h q around env s a (r.Case e rs) = then_R (q.exp around env s e) (λ v s1. rules_R l h q around env s1 rs v (match_failed around) (match_failed around) (failed_R around))
 form_R l h q around env s a (r.Handle e rs) =
     handled_R (q.exp around env s e) (λ p s1. rules_R l h q around env s1 rs p (λ s2. Raised p s2) (λ s2. Raised p s2) (λ s2. raised_R (omega arith)))

@@ -22,7 +22,7 @@ use Rattle.region_syntax.specs.Erasure.{erased_rules, erased_defs}
 use Rattle.region_syntax.specs.Cost.{meeting, regions_of}
 use Rattle.region_syntax.specs.GroundTypes.{with_types}
 use Rattle.region_eval.specs.RunState.{Done, Raised, Over, then_do, handled, counted, storing}
-use Rattle.region_eval.specs.FreeNames.{free_in_rules, free_in_group, function_words, group_words}
+use Rattle.region_eval.specs.FreeNames.{free_in_rules, function_words, group_words}
 use Rattle.region_eval.specs.RegionStore.{Value, Int, Char, Unit, Con, Address, Env, Regions, Object, Str, Tuple, Applied, Packet, PacketOf, Ref, Closure, Group, Maker, Prim, Store, Around, around_with, State, Outcome, no_rule, found, value_at, bindings_of, serial_of, serial_of_type, replaced, alloc, follow, opened}
 use Rattle.region_eval.specs.RegionPrimitives.{Comparing, bool_value, prim_application, prim_named}
 
@@ -308,16 +308,20 @@ group_addresses around many (r.defs head rs ds) =
     let p : ℕ = serial_of around.regions head.at in
     (head.name, Address p (many p)) ∷ group_addresses around (replaced p (suc (many p)) many) ds
 
--- the functions of a group are made, each with the addresses of all
+-- what the names free in rules stand for
+abbrev pub held_by : r.Rules → Env → Env
+held_by rs env = bindings_of (free_in_rules (erased_rules rs)) env
+
+-- the functions of a group are made; the group's names stand for their addresses
 abbrev pub group_made : Around → Env → Env → r.Defs → State → Outcome Env
 group_made around env addresses r.no_defs s = Done addresses s
 group_made around env addresses (r.defs head rs ds) s =
-    then_do (alloc around.live (serial_of around.regions head.at) (Group head.regions rs around.regions env addresses) s) (λ v s1.
+    then_do (alloc around.live (serial_of around.regions head.at) (Group head.regions rs around.regions (held_by rs (addresses ++ env))) s) (λ v s1.
     group_made around env addresses ds s1)
 
 abbrev pub group_bound : Around → Env → r.Defs → State → Outcome Env
 group_bound around env group s =
-    group_made around (bindings_of (free_in_group (erased_defs group)) env) (group_addresses around (λ p. length (s.store.objects p)) group) group s
+    group_made around env (group_addresses around (λ p. length (s.store.objects p)) group) group s
 
 -- the regions that a function of a group binds, with those of the instance
 abbrev pub bound_regions : Regions → Regions → List ℕ → List Place → Regions
@@ -326,8 +330,8 @@ bound_regions outer regions _ _ = regions
 
 -- the closure of an instance lies at the place of its type
 abbrev pub instance_result : Around → RegionType → List Place → Object → State → Outcome Value
-instance_result around a places (Group bound rs regions env addresses) s =
-    alloc around.live (serial_of_type around.regions a) (Closure rs (bound_regions around.regions regions bound places) (addresses ++ env)) s
+instance_result around a places (Group bound rs regions env) s =
+    alloc around.live (serial_of_type around.regions a) (Closure rs (bound_regions around.regions regions bound places) env) s
 instance_result around a places _ s = no_rule s
 
 -- ---- expressions
@@ -355,7 +359,7 @@ form_result low around env s a (r.App f e) =
     then_do (low.exp around env s f) (λ h s1. then_do (low.exp around env s1 e) (λ v s2. follow around.live h (application low around v) (counted 1 s2)))
 form_result low around env s a (r.Let ds es) = then_do (low.scope around env env s r.no_rules (plan_of ds [] es)) (λ x s1. last_value x.1 s1)
 form_result low around env s a (r.Fn rs at) =
-    alloc around.live (serial_of around.regions at) (Closure rs around.regions (bindings_of (free_in_rules (erased_rules rs)) env)) (counted (function_words (erased_rules rs)) s)
+    alloc around.live (serial_of around.regions at) (Closure rs around.regions (held_by rs env)) (counted (function_words (erased_rules rs)) s)
 form_result low around env s a (r.Case e rs) = then_do (low.exp around env s e) (λ v s1. rules_result low around env s1 rs v (match_failed around))
 form_result low around env s a (r.Handle e rs) = handled (low.exp around env s e) (λ p s1. rules_result low around env s1 rs p (λ s2. Raised p s2))
 form_result low around env s a (r.Raise e) = then_do (low.exp around env s e) (λ p s1. Raised p s1)

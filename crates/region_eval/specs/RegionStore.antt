@@ -44,8 +44,8 @@ pub data Object : Type 0 where
   Ref : Value → Object
   -- a function: its rules, and what the regions and the names free in it stand for
   Closure : r.Rules → Regions → Env → Object
-  -- a function of a group: the regions that it binds, its rules, what the regions and names free in the group stand for, and where the group lies
-  Group : List ℕ → r.Rules → Regions → Env → Env → Object
+  -- a function of a group: the regions that it binds, its rules, and what the regions and the names free in it stand for, those of the group too
+  Group : List ℕ → r.Rules → Regions → Env → Object
   -- a constructor that stands for a function, and the region in which it makes values
   Maker : Constructor → ℕ → Object
   -- a primitive by its name, its type, the regions of what it gives at each further argument, and the arguments so far

@@ -44,10 +44,26 @@ unfoldable pub defs_places : r.Defs → List ℕ
 defs_places r.no_defs = []
 defs_places (r.defs head rs ds) = regions_in (head.at ∷ []) ++ defs_places ds
 
--- A group around its bodies, whose binders these are: several names of one group may bind the same, and what one of them binds may occur in
--- the bodies of all.
+-- those that stand there again behind themselves
+unfoldable pub repeated : List ℕ → List ℕ
+repeated [] = []
+repeated (n ∷ ns) = if is_number_in n ns then n ∷ repeated ns else repeated ns
+
+-- what one name of a group binds more than once
+unfoldable pub repeated_regions : r.Defs → List ℕ
+repeated_regions r.no_defs = []
+repeated_regions (r.defs head rs ds) = repeated head.regions ++ repeated_regions ds
+
+unfoldable pub repeated_effects : r.Defs → List ℕ
+repeated_effects r.no_defs = []
+repeated_effects (r.defs head rs ds) = repeated head.effects ++ repeated_effects ds
+
+-- A group around its bodies, whose binders these are: several names of one group may bind the same, but no name binds anything twice; and
+-- what one of them binds may occur in the bodies of all.
 abbrev pub around_group : r.Defs → Binders → Binders
-around_group ds b = occurring (defs_places ds) (bound_around (distinct (defs_regions ds)) (distinct (defs_effects ds)) b)
+around_group ds b =
+    occurring (defs_places ds)
+    (bound_around (distinct (defs_regions ds) ++ repeated_regions ds) (distinct (defs_effects ds) ++ repeated_effects ds) b)
 
 unfoldable mutual
   pub binders : r.Exp → Binders

@@ -1,5 +1,5 @@
 -- What is asked of the datatypes that a type names: that they are there, and that equality can go through them. Of this project.
-use Rattle.std.specs.Prelude.{ℕ, zero, suc, nat_eq, Bool, true, false, ◌&&◌, if◌then◌else◌, List, [], ◌∷◌, ◌++◌, length, Option, Some, None}
+use Rattle.std.specs.Prelude.{ℕ, zero, suc, nat_eq, nat_lt, Bool, true, false, ◌&&◌, if◌then◌else◌, List, [], ◌∷◌, ◌++◌, length, Option, Some, None}
 use Rattle.std.specs.Option.{option_map_or}
 use Rattle.std.specs.List.{list_all, slice_get}
 use Rattle.region_syntax.specs.GroundTypes as g
@@ -8,21 +8,29 @@ use Rattle.region_syntax.specs.GroundTerms.{Datatype}
 use Rattle.region_syntax.specs.Effects.{is_number_in}
 use Rattle.region_syntax.specs.Cost.{distinct}
 
--- Each datatype that a type names is there and has as many arguments as parameters, and the type names no parameter.
+-- Each datatype that a type names is there and has as many arguments as parameters, and the type names none but so many parameters.
 unfoldable mutual
-  pub type_stands : List Datatype → GroundType → Bool
-  type_stands ds (g.Tuple ts) = types_stand ds ts
-  type_stands ds (g.Arrow a b) = type_stands ds a && type_stands ds b
-  type_stands ds (g.Data n ts) = option_map_or (λ d. nat_eq d.params (many_types ts)) (slice_get ds n) false && types_stand ds ts
-  type_stands ds (g.Ref a) = type_stands ds a
-  type_stands ds (g.Cache a b) = type_stands ds a && type_stands ds b
-  type_stands ds (g.Desc a) = type_stands ds a
-  type_stands ds (g.Var n) = false
-  type_stands ds _ = true
+  pub stands_over : ℕ → List Datatype → GroundType → Bool
+  stands_over params ds (g.Tuple ts) = each_stands_over params ds ts
+  stands_over params ds (g.Arrow a b) = stands_over params ds a && stands_over params ds b
+  stands_over params ds (g.Data n ts) = option_map_or (λ d. nat_eq d.params (many_types ts)) (slice_get ds n) false && each_stands_over params ds ts
+  stands_over params ds (g.Ref a) = stands_over params ds a
+  stands_over params ds (g.Cache a b) = stands_over params ds a && stands_over params ds b
+  stands_over params ds (g.Desc a) = stands_over params ds a
+  stands_over params ds (g.Var n) = nat_lt n params
+  stands_over params ds _ = true
 
-  pub types_stand : List Datatype → GroundTypes → Bool
-  types_stand ds g.no_types = true
-  types_stand ds (g.types x xs) = type_stands ds x && types_stand ds xs
+  pub each_stands_over : ℕ → List Datatype → GroundTypes → Bool
+  each_stands_over params ds g.no_types = true
+  each_stands_over params ds (g.types x xs) = stands_over params ds x && each_stands_over params ds xs
+
+-- The type of a term names no parameter.
+abbrev pub type_stands : List Datatype → GroundType → Bool
+type_stands ds a = stands_over 0 ds a
+
+-- the arguments of a datatype's constructors, which name its parameters
+abbrev pub declaration_stands : List Datatype → Datatype → Bool
+declaration_stands ds d = list_all (λ c. option_map_or (λ a. stands_over d.params ds a) c.1 true) d.constructors
 
 -- the datatypes that a type names
 unfoldable mutual

@@ -18,7 +18,7 @@ use Rattle.region_syntax.specs.GroundTerms.{Datatype}
 use Rattle.region_syntax.specs.Erasure.{erased_argument}
 use Rattle.region_syntax.specs.Effects.{same_ground, same_grounds}
 use Rattle.region_syntax.specs.PrimitiveTypes.{is_datatype, is_plain}
-use Rattle.region_syntax.specs.Datatypes.{type_stands}
+use Rattle.region_syntax.specs.Datatypes.{type_stands, declaration_stands}
 use Rattle.region_syntax.specs.RegionTyping.{may_compare, all_hold}
 use Rattle.region_syntax.specs.TopLevel.{basis_datatypes, basis_exceptions, begins_with, same_constructor, same_datatype}
 
@@ -156,8 +156,13 @@ unfoldable pub are_functions : g.Defs → Bool
 are_functions g.no_defs = true
 are_functions (g.defs name rs ds) = is_function (function_type rs) rs && are_functions ds
 
+unfoldable pub some_defs : g.Defs → Bool
+some_defs g.no_defs = false
+some_defs (g.defs name rs ds) = true
+
+-- a group: one or more functions
 abbrev pub is_group : g.Defs → Bool
-is_group group = is_once (with_group group []) && are_functions group
+is_group group = some_defs group && is_once (with_group group []) && are_functions group
 
 -- the bindings of a `val`: one or more
 unfoldable pub are_bindings : g.Rules → Bool
@@ -184,8 +189,13 @@ unfoldable pub is_quotation : GroundType → g.Pieces → Bool
 is_quotation (t.Data n (t.types (t.Data m (t.types a t.no_types)) t.no_types)) ps = nat_eq n 1 && nat_eq m 4 && antis_are a ps
 is_quotation _ ps = false
 
+-- a tuple has two parts or more
+unfoldable pub two_or_more : GroundTypes → Bool
+two_or_more (t.types x (t.types y xs)) = true
+two_or_more _ = false
+
 unfoldable pub is_tuple : GroundType → GroundTypes → Bool
-is_tuple (t.Tuple xs) ys = same_grounds xs ys
+is_tuple (t.Tuple xs) ys = two_or_more ys && same_grounds xs ys
 is_tuple _ ys = false
 
 unfoldable pub is_application : GroundType → GroundType → GroundType → Bool
@@ -334,11 +344,12 @@ unfoldable mutual
   decs_answers tables c (g.locals hidden shown ds) =
       decs_answers tables c hidden ++ (decs_answers tables (after hidden c) shown ++ decs_answers tables (shown_by shown (after hidden c) ++ c) ds)
 
--- the basis is in front of the program's own datatypes and exceptions
+-- the basis is in front of the program's own datatypes and exceptions, and the types that constructors are applied to stand
 abbrev pub tables_fit : Tables → Bool
 tables_fit tables =
     begins_with same_datatype basis_datatypes tables.datatypes
     && begins_with (same_constructor same_ground) (map (λ c. (c.0, erased_argument c.1)) basis_exceptions) tables.exceptions
+    && list_all (declaration_stands tables.datatypes) tables.datatypes
 
 abbrev pub program_tables : g.Program → Tables
 program_tables p = record { datatypes = p.datatypes; exceptions = p.exceptions }

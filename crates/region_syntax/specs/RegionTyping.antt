@@ -286,8 +286,13 @@ are_functions outer inner group (r.defs head body ds) =
     is_function inner head.ty body && context_is_free_of head.regions head.effects outer
     && group_is_free_of head.regions head.effects group && are_functions outer inner group ds
 
+unfoldable pub some_defs : r.Defs → Bool
+some_defs r.no_defs = false
+some_defs (r.defs head rs ds) = true
+
+-- a group: one or more functions
 abbrev pub is_group : Context → r.Defs → Bool
-is_group c group = is_once (with_group group []) && are_functions c (with_group group c) group group
+is_group c group = some_defs group && is_once (with_group group []) && are_functions c (with_group group c) group group
 
 -- the bindings of a `val`: one or more
 unfoldable pub are_bindings : r.Rules → Bool
@@ -324,8 +329,13 @@ unfoldable pub is_quotation : RegionType → Place → r.Pieces → Bool
 is_quotation (t.Data n (t.types (t.Data m (t.types a t.no_types) q f) t.no_types) p e) at ps = nat_eq n 1 && nat_eq m 4 && same_place p at && same_place q at && antis_are a ps
 is_quotation _ at ps = false
 
+-- a tuple has two parts or more
+unfoldable pub two_or_more : RegionTypes → Bool
+two_or_more (t.types a (t.types b ts)) = true
+two_or_more _ = false
+
 unfoldable pub is_tuple : RegionType → Place → RegionTypes → Bool
-is_tuple (t.Tuple p xs) at ys = same_place p at && same_types xs ys
+is_tuple (t.Tuple p xs) at ys = same_place p at && two_or_more ys && same_types xs ys
 is_tuple _ at ys = false
 
 unfoldable pub is_application : RegionType → RegionType → RegionType → Bool
@@ -389,7 +399,7 @@ pat_fits tables a (r.CharPat n) = same_type a t.Char
 pat_fits tables a r.UnitPat = same_type a t.Unit
 pat_fits tables (t.Str p) (r.StrPat text) = true
 pat_fits tables a (r.StrPat text) = false
-pat_fits tables (t.Tuple p xs) (r.TuplePat ps) = same_types xs (types_of_pats ps)
+pat_fits tables (t.Tuple p xs) (r.TuplePat ps) = two_or_more (types_of_pats ps) && same_types xs (types_of_pats ps)
 pat_fits tables a (r.TuplePat ps) = false
 pat_fits tables (t.Data n xs p e) (r.ListPat ps) = is_list_of (t.Data n xs p e) p (types_of_pats ps)
 pat_fits tables a (r.ListPat ps) = false
