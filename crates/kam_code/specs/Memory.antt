@@ -209,8 +209,7 @@ limit_words None = 0 ∷ 0 ∷ []
 limit_words (Some n) = 1 ∷ n ∷ []
 
 abbrev pub limit_at : Option ℕ → Option ℕ → Option (Option ℕ)
-limit_at None n = None
-limit_at (Some present) n = option_map (λ m. if present == 0 then None else Some m) n
+limit_at present n = option_and_then (λ i. option_map (λ m. if i == 0 then None else Some m) n) (index_below 2 present)
 
 -- a cache's words: its name's pointer, whether it is `WhileUsed`, time and size
 abbrev pub cache_words : ℕ → Bool → Option ℕ → Option ℕ → List ℕ
@@ -219,7 +218,7 @@ cache_words name used time size = name ∷ number_of_bool used ∷ (limit_words 
 abbrev pub kind_at : ℕ → List Region → Option Kind
 kind_at p regions =
     all_three (λ used time size. record { used = used == 1; time = time; size = size })
-    (field_at p 1 regions) (limit_at (field_at p 2 regions) (field_at p 3 regions)) (limit_at (field_at p 4 regions) (field_at p 5 regions))
+    (index_below 2 (field_at p 1 regions)) (limit_at (field_at p 2 regions) (field_at p 3 regions)) (limit_at (field_at p 4 regions) (field_at p 5 regions))
 
 -- the cache that a pointer leads to, with the descriptions of its key and value
 abbrev pub cache_at : Desc → Desc → ℕ → List Region → Option CacheId

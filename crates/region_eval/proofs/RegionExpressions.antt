@@ -11,7 +11,7 @@ use Rattle.region_syntax.specs.RegionTerms as r
 use Rattle.region_syntax.specs.Erasure.{erased_rules, erased_defs}
 use Rattle.region_eval.specs.RunState.{Raised, counted}
 use Rattle.region_eval.specs.FreeNames.{function_words, group_words}
-use Rattle.region_eval.specs.RegionStore.{Value, Con, Env, Object, Str, Tuple, Applied, Packet, PacketOf, Ref, Closure, Group, Maker, Prim, Around, around_with, State, Outcome, value_at, bindings_of, serial_of, serial_of_type}
+use Rattle.region_eval.specs.RegionStore.{Value, Con, Env, Object, Str, Tuple, Applied, Packet, PacketOf, Ref, Closure, Group, Maker, Prim, Around, around_with, State, Outcome, value_at, serial_of, serial_of_type}
 use Rattle.region_eval.specs.RegionEvaluation.{Evaluator, Level, Shows, Plan, plan_of, each_value, last_of, last_value, each_piece, cells, list_result, chosen, rules_result, thrown, match_failed, constructor_result, constructed, application, group_addresses, group_made, group_bound, bound_regions, instance_result, held_by, by_bool, form_result, bound_more, with_binding, with_dec, Coming, Comes, Ends, coming, with_coming, scope_result}
 use Rattle.region_eval.proofs.Relations.{done_R, raised_R, no_rule_R, weaker, if_R, then_R, handled_R}
 use Rattle.region_eval.proofs.RegionPatterns.{S, found_R, alloc_R, follow_R, Matches, Compares}

@@ -32,6 +32,10 @@ type_stands ds a = stands_over 0 ds a
 abbrev pub declaration_stands : List Datatype → Datatype → Bool
 declaration_stands ds d = list_all (λ c. option_map_or (λ a. stands_over d.params ds a) c.1 true) d.constructors
 
+-- the argument of an exception, which names no parameter
+abbrev pub argument_stands : List Datatype → Option GroundType → Bool
+argument_stands ds a = option_map_or (type_stands ds) a true
+
 -- the datatypes that a type names
 unfoldable mutual
   pub named_in : GroundType → List ℕ

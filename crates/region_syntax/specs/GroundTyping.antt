@@ -2,7 +2,7 @@
 -- type variables; constructors and primitives are taken at the types that their nodes carry.
 use Rattle.std.specs.Prelude.{ℕ, nat_eq, Bool, true, false, ◌&&◌, ◌||◌, if◌then◌else◌, List, [], ◌∷◌, ◌++◌, map, Option, Some, None, is_some, codes}
 use Rattle.std.specs.Option.{option_and_then, option_map, option_map_or}
-use Rattle.std.specs.List.{slice_get}
+use Rattle.std.specs.List.{list_all, slice_get}
 use Rattle.std.specs.Str.{bytes_eq}
 use Rattle.sml_syntax.specs.TypeTerms as s
 use Rattle.sml_syntax.specs.TypeTerms.{Schemes}
@@ -18,7 +18,7 @@ use Rattle.region_syntax.specs.GroundTerms.{Datatype}
 use Rattle.region_syntax.specs.Erasure.{erased_argument}
 use Rattle.region_syntax.specs.Effects.{same_ground, same_grounds}
 use Rattle.region_syntax.specs.PrimitiveTypes.{is_datatype, is_plain}
-use Rattle.region_syntax.specs.Datatypes.{type_stands, declaration_stands}
+use Rattle.region_syntax.specs.Datatypes.{type_stands, declaration_stands, argument_stands}
 use Rattle.region_syntax.specs.RegionTyping.{may_compare, all_hold}
 use Rattle.region_syntax.specs.TopLevel.{basis_datatypes, basis_exceptions, begins_with, same_constructor, same_datatype}
 
@@ -344,12 +344,12 @@ unfoldable mutual
   decs_answers tables c (g.locals hidden shown ds) =
       decs_answers tables c hidden ++ (decs_answers tables (after hidden c) shown ++ decs_answers tables (shown_by shown (after hidden c) ++ c) ds)
 
--- the basis is in front of the program's own datatypes and exceptions, and the types that constructors are applied to stand
+-- the basis is in front of the program's own datatypes and exceptions, and the types of their arguments stand
 abbrev pub tables_fit : Tables → Bool
 tables_fit tables =
     begins_with same_datatype basis_datatypes tables.datatypes
     && begins_with (same_constructor same_ground) (map (λ c. (c.0, erased_argument c.1)) basis_exceptions) tables.exceptions
-    && list_all (declaration_stands tables.datatypes) tables.datatypes
+    && list_all (declaration_stands tables.datatypes) tables.datatypes && list_all (λ e. argument_stands tables.datatypes e.1) tables.exceptions
 
 abbrev pub program_tables : g.Program → Tables
 program_tables p = record { datatypes = p.datatypes; exceptions = p.exceptions }

@@ -11,7 +11,8 @@ use Rattle.region_syntax.specs.RegionTypes.{RegionType}
 use Rattle.region_syntax.specs.RegionTypes as t
 use Rattle.region_syntax.specs.RegionTerms as r
 use Rattle.region_syntax.specs.Effects.{effect_of, on, within, same_ground, same_type, all_of}
-use Rattle.region_syntax.specs.Datatypes.{declaration_stands}
+use Rattle.region_syntax.specs.Datatypes.{declaration_stands, argument_stands}
+use Rattle.region_syntax.specs.Erasure.{erased_argument}
 use Rattle.region_syntax.specs.Binders.{all_are_bound, around_group, bind_once, rules_binders, defs_binders, decs_binders}
 use Rattle.region_syntax.specs.RegionTyping.{Scheme, mono, poly, Context, Tables, type_of, is_val, is_group, bound_by_rules, with_group, after, shown_by, bindings_effect, group_effect, bindings_answers, defs_answers}
 
@@ -72,7 +73,8 @@ argument_is_global (Some a) = is_global (all_of a)
 abbrev pub tables_fit : Tables → Bool
 tables_fit tables =
     begins_with same_datatype basis_datatypes tables.datatypes && begins_with (same_constructor same_type) basis_exceptions tables.exceptions
-    && list_all (declaration_stands tables.datatypes) tables.datatypes && list_all (λ e. argument_is_global e.1) tables.exceptions
+    && list_all (declaration_stands tables.datatypes) tables.datatypes
+    && list_all (λ e. argument_is_global e.1 && argument_stands tables.datatypes (erased_argument e.1)) tables.exceptions
 
 -- what names stand for has no place but the global one, other than those that a scheme binds
 unfoldable pub scheme_is_global : Scheme → Bool
