@@ -1,7 +1,8 @@
--- The tokens of the text that a tree is printed as: each form is atomic, in parentheses where it isn't so by itself.
+-- The tokens of the text that a tree is printed as. Types and patterns are atomic, in parentheses where they aren't so by
+-- themselves; an expression has parentheses around it only where the place that it stands in asks for a higher level than its own.
 -- A function of clauses is printed as clauses, also where its tree has the derived form of several patterns: such a tree begins
 -- with a pattern that is the name of a number, which no text can have.
-use Rattle.std.specs.Prelude.{ℕ, ◌==◌, List, [], ◌∷◌, ◌++◌, Bool, false, Option, Some, None, cond, map, flat_map, codes, ◌||◌}
+use Rattle.std.specs.Prelude.{ℕ, ◌==◌, ◌+◌, nat_lt, List, [], ◌∷◌, ◌++◌, Bool, true, false, Option, Some, None, cond, map, flat_map, codes, ◌||◌}
 use Rattle.std.specs.List.{list_any}
 use Rattle.std.specs.Str.{bytes_eq}
 use Rattle.sml_syntax.specs.declared.token.TokenForm.{TokenForm}
@@ -19,7 +20,7 @@ use Rattle.sml_syntax.specs.declared.tree.Dec.{Dec}
 use Rattle.sml_syntax.specs.declared.tree.Program.{Program}
 use Rattle.sml_syntax.specs.declared.tree.DecForm.TheOpen.{DecForm-F, ExpForm-F, Piece-F, Rule-F}
 use Rattle.sml_syntax.specs.declared.tree.DecForm.TheFolds.{fold-Exp, fold-Rule, fold-Piece, fold-Dec}
-use Rattle.sml_syntax.specs.InfixNames.{infix_level}
+use Rattle.sml_syntax.specs.InfixNames.{infix_level, groups_right}
 use Rattle.sml_syntax.specs.Layers.{PatLayer, form_of_pat}
 use Rattle.sml_syntax.specs.Spelling.{is_digit, is_among, reserved_words, module_words, layered_words, abstype_words, fixity_words, while_words}
 use Rattle.print_laws.specs.Spelled.{spelled}
@@ -41,6 +42,15 @@ abbrev pub parted : {A : Type 0} → List ℕ → (A → Forms) → List A → F
 parted mark forms [] = []
 parted mark forms (x ∷ xs) = forms x ++ behind_mark mark forms xs
 
+-- with bars between, where the last one is told
+abbrev pub alternatives_from : {A : Type 0} → (Bool → A → Forms) → A → List A → Forms
+alternatives_from forms x [] = forms true x
+alternatives_from forms x (y ∷ ys) = forms false x ++ f.Mark (codes "|") ∷ alternatives_from forms y ys
+
+abbrev pub alternatives : {A : Type 0} → (Bool → A → Forms) → List A → Forms
+alternatives forms [] = []
+alternatives forms (x ∷ xs) = alternatives_from forms x xs
+
 -- Names
 
 abbrev pub has_dot : List ℕ → Bool
@@ -57,6 +67,18 @@ head_forms name = cond (has_dot name) (f.Long name ∷ []) (with_op (infix_level
 -- a name as an expression: `=` is one too
 unfoldable pub name_forms : List ℕ → Forms
 name_forms name = cond (bytes_eq name (codes "=")) (f.Mark (codes "op") ∷ f.Mark (codes "=") ∷ []) (head_forms name)
+
+-- an infix name where it stands between its operands
+unfoldable pub infix_word : List ℕ → TokenForm
+infix_word name = cond (bytes_eq name (codes "=")) (f.Mark (codes "=")) (f.Name name)
+
+abbrev pub infix_by : Option ℕ → List ℕ → Option (ℕ × TokenForm)
+infix_by None name = None
+infix_by (Some level) name = Some (level, infix_word name)
+
+-- the level and the word of an infix name
+unfoldable pub infix_of : List ℕ → Option (ℕ × TokenForm)
+infix_of name = cond (has_dot name) None (infix_by (infix_level name) name)
 
 -- a name where types stand: no infix one does
 abbrev pub unless_infix : Option ℕ → List ℕ → TokenForm
@@ -128,34 +150,74 @@ is_number _ = false
 
 -- Expressions
 
+-- the tokens of an expression without parentheses around it, whether a match is still open at their end, and their level:
+-- 0 for `fn`, `case`, `if`, `raise` and `handle`, which stand only where any expression does, 1 for `orelse`, 2 for `andalso`, 3 with a type,
+-- 4 and the level of an infix name, 14 for an application, and 15 for an atomic expression
+pub record Part : Type 0 where
+  pub level : ℕ
+  pub opens : Bool
+  pub forms : Forms
+
+abbrev pub closed : ℕ → Forms → Part
+closed level forms = record { level = level; opens = false; forms = forms }
+
+abbrev pub atomic : Forms → Part
+atomic forms = closed 15 forms
+
+-- one behind which a match may be open
+abbrev pub whole : Bool → Forms → Part
+whole opens forms = record { level = 0; opens = opens; forms = forms }
+
+-- where an expression of that level stands
+unfoldable pub put : ℕ → Part → Forms
+put level part = cond (nat_lt part.level level) (in_parens part.forms) part.forms
+
+-- where a bar follows
+unfoldable pub barred : Part → Forms
+barred part = cond part.opens (in_parens part.forms) part.forms
+
+-- the body of a rule or a clause, the last one or one before a bar
+abbrev pub body_forms : Bool → Part → Forms
+body_forms true part = part.forms
+body_forms false part = barred part
+
+-- the operands of an infix name
+abbrev pub left_place : ℕ → ℕ
+left_place level = cond (groups_right level) (5 + level) (4 + level)
+
+abbrev pub right_place : ℕ → ℕ
+right_place level = cond (groups_right level) (4 + level) (5 + level)
+
 -- a pattern and what stands behind it
 pub record Clause : Type 0 where
   pub pat : Pat
-  pub body : Forms
+  pub body : Part
 
--- what is printed of an expression: its tokens, its name where that is one which can only stand behind `^`,
--- and the clauses of the `case` that it is, or is functions around
+-- what is printed of an expression: its tokens, its name where that is one which can only stand behind `^`, the clauses of the
+-- `case` that it is, or is functions around, the level and word of the infix name that it is, and the parts of the tuple that it is
 pub record Ink : Type 0 where
-  pub forms : Forms
+  pub part : Part
   pub lone : Option (List ℕ)
   pub clauses : List Clause
+  pub operator : Option (ℕ × TokenForm)
+  pub members : List Part
 
 -- of a rule
 pub record RuleInk : Type 0 where
   pub pat : Pat
   pub body : Ink
 
-abbrev pub ink : Forms → Ink
-ink forms = record { forms = forms; lone = None; clauses = [] }
+abbrev pub ink : Part → Ink
+ink part = record { part = part; lone = None; clauses = []; operator = None; members = [] }
 
-abbrev pub rule_forms : RuleInk → Forms
-rule_forms r = pat_forms r.pat ++ f.Mark (codes "=>") ∷ r.body.forms
+abbrev pub rule_forms : Bool → RuleInk → Forms
+rule_forms last r = pat_forms r.pat ++ f.Mark (codes "=>") ∷ body_forms last r.body.part
 
 abbrev pub match_forms : List RuleInk → Forms
-match_forms rules = parted (codes "|") rule_forms rules
+match_forms rules = alternatives rule_forms rules
 
 abbrev pub clause_of : RuleInk → Clause
-clause_of r = record { pat = r.pat; body = r.body.forms }
+clause_of r = record { pat = r.pat; body = r.body.part }
 
 -- the clauses in the first rule
 abbrev pub inner_clauses : List RuleInk → List Clause
@@ -163,7 +225,12 @@ inner_clauses [] = []
 inner_clauses (r ∷ rs) = r.body.clauses
 
 abbrev pub exps_forms : List ℕ → List Ink → Forms
-exps_forms mark es = parted mark (λ (e : Ink). e.forms) es
+exps_forms mark es = parted mark (λ (e : Ink). e.part.forms) es
+
+-- an infix name between two operands, which is it applied to their tuple; anything else before its argument
+abbrev pub app_part : Option (ℕ × TokenForm) → List Part → Part → Part → Part
+app_part (Some operator) (left ∷ right ∷ []) function argument = closed (4 + operator.0) (put (left_place operator.0) left ++ operator.1 ∷ put (right_place operator.0) right)
+app_part _ _ function argument = closed 14 (put 14 function ++ put 15 argument)
 
 abbrev pub anti_forms : Forms → Option (List ℕ) → Forms
 anti_forms forms (Some name) = f.Anti name ∷ []
@@ -176,37 +243,37 @@ plain_forms (b ∷ bs) = f.Plain (b ∷ bs) ∷ []
 
 abbrev pub piece_layer : Piece-F Forms Ink Forms Forms Ink RuleInk → Forms
 piece_layer (Piece-F.Plain text) = plain_forms text
-piece_layer (Piece-F.Anti e) = anti_forms e.forms e.lone
+piece_layer (Piece-F.Anti e) = anti_forms e.part.forms e.lone
 
 abbrev pub exp_layer : ExpForm-F Forms Ink Forms Forms Ink RuleInk → Ink
-exp_layer (ExpForm-F.Int number) = ink (f.Int number ∷ [])
-exp_layer (ExpForm-F.Char byte) = ink (f.Char byte ∷ [])
-exp_layer (ExpForm-F.Str text) = ink (f.Str text ∷ [])
-exp_layer (ExpForm-F.Name name) = record { forms = name_forms name; lone = cond (is_lone name) (Some name) None; clauses = [] }
-exp_layer ExpForm-F.Unit = ink (f.Mark (codes "(") ∷ f.Mark (codes ")") ∷ [])
-exp_layer (ExpForm-F.Tuple es) = ink (in_parens (exps_forms (codes ",") es))
-exp_layer (ExpForm-F.List es) = ink ((f.Mark (codes "[") ∷ exps_forms (codes ",") es) ++ f.Mark (codes "]") ∷ [])
-exp_layer (ExpForm-F.Seq es) = ink (in_parens (exps_forms (codes ";") es))
-exp_layer (ExpForm-F.App function argument) = ink (in_parens (function.forms ++ argument.forms))
-exp_layer (ExpForm-F.Let ds es) = ink ((f.Mark (codes "let") ∷ flat_map (λ d. d) ds) ++ f.Mark (codes "in") ∷ exps_forms (codes ";") es ++ f.Mark (codes "end") ∷ [])
-exp_layer (ExpForm-F.Fn rules) = record { forms = in_parens (f.Mark (codes "fn") ∷ match_forms rules); lone = None; clauses = inner_clauses rules }
-exp_layer (ExpForm-F.Case e rules) = record { forms = in_parens (f.Mark (codes "case") ∷ e.forms ++ f.Mark (codes "of") ∷ match_forms rules); lone = None; clauses = map clause_of rules }
-exp_layer (ExpForm-F.Handle e rules) = ink (in_parens (e.forms ++ f.Mark (codes "handle") ∷ match_forms rules))
-exp_layer (ExpForm-F.Raise e) = ink (in_parens (f.Mark (codes "raise") ∷ e.forms))
-exp_layer (ExpForm-F.If test chosen otherwise) = ink (in_parens (f.Mark (codes "if") ∷ test.forms ++ f.Mark (codes "then") ∷ chosen.forms ++ f.Mark (codes "else") ∷ otherwise.forms))
-exp_layer (ExpForm-F.Both left right) = ink (in_parens (left.forms ++ f.Mark (codes "andalso") ∷ right.forms))
-exp_layer (ExpForm-F.Either left right) = ink (in_parens (left.forms ++ f.Mark (codes "orelse") ∷ right.forms))
-exp_layer (ExpForm-F.Quote pieces) = ink ((f.QuoteFrom ∷ flat_map (λ p. p) pieces) ++ f.QuoteTo ∷ [])
-exp_layer (ExpForm-F.Typed e t) = ink (in_parens (e.forms ++ f.Mark (codes ":") ∷ ty_forms t))
+exp_layer (ExpForm-F.Int number) = ink (atomic (f.Int number ∷ []))
+exp_layer (ExpForm-F.Char byte) = ink (atomic (f.Char byte ∷ []))
+exp_layer (ExpForm-F.Str text) = ink (atomic (f.Str text ∷ []))
+exp_layer (ExpForm-F.Name name) = record { part = atomic (name_forms name); lone = cond (is_lone name) (Some name) None; clauses = []; operator = infix_of name; members = [] }
+exp_layer ExpForm-F.Unit = ink (atomic (f.Mark (codes "(") ∷ f.Mark (codes ")") ∷ []))
+exp_layer (ExpForm-F.Tuple es) = record { part = atomic (in_parens (exps_forms (codes ",") es)); lone = None; clauses = []; operator = None; members = map (λ (e : Ink). e.part) es }
+exp_layer (ExpForm-F.List es) = ink (atomic ((f.Mark (codes "[") ∷ exps_forms (codes ",") es) ++ f.Mark (codes "]") ∷ []))
+exp_layer (ExpForm-F.Seq es) = ink (atomic (in_parens (exps_forms (codes ";") es)))
+exp_layer (ExpForm-F.App function argument) = ink (app_part function.operator argument.members function.part argument.part)
+exp_layer (ExpForm-F.Let ds es) = ink (atomic ((f.Mark (codes "let") ∷ flat_map (λ d. d) ds) ++ f.Mark (codes "in") ∷ exps_forms (codes ";") es ++ f.Mark (codes "end") ∷ []))
+exp_layer (ExpForm-F.Fn rules) = record { part = whole true (f.Mark (codes "fn") ∷ match_forms rules); lone = None; clauses = inner_clauses rules; operator = None; members = [] }
+exp_layer (ExpForm-F.Case e rules) = record { part = whole true (f.Mark (codes "case") ∷ e.part.forms ++ f.Mark (codes "of") ∷ match_forms rules); lone = None; clauses = map clause_of rules; operator = None; members = [] }
+exp_layer (ExpForm-F.Handle e rules) = ink (whole true (put 1 e.part ++ f.Mark (codes "handle") ∷ match_forms rules))
+exp_layer (ExpForm-F.Raise e) = ink (whole e.part.opens (f.Mark (codes "raise") ∷ e.part.forms))
+exp_layer (ExpForm-F.If test chosen otherwise) = ink (whole otherwise.part.opens (f.Mark (codes "if") ∷ test.part.forms ++ f.Mark (codes "then") ∷ chosen.part.forms ++ f.Mark (codes "else") ∷ otherwise.part.forms))
+exp_layer (ExpForm-F.Both left right) = ink (closed 2 (put 3 left.part ++ f.Mark (codes "andalso") ∷ put 2 right.part))
+exp_layer (ExpForm-F.Either left right) = ink (closed 1 (put 2 left.part ++ f.Mark (codes "orelse") ∷ put 1 right.part))
+exp_layer (ExpForm-F.Quote pieces) = ink (atomic ((f.QuoteFrom ∷ flat_map (λ p. p) pieces) ++ f.QuoteTo ∷ []))
+exp_layer (ExpForm-F.Typed e t) = ink (closed 3 (put 3 e.part ++ f.Mark (codes ":") ∷ ty_forms t))
 
 -- Declarations
 
 -- a clause of a function of that name: one pattern, or those of its tuple
-abbrev pub one_clause : List ℕ → Clause → Forms
-one_clause name c = head_forms name ++ pat_forms c.pat ++ f.Mark (codes "=") ∷ c.body
+abbrev pub one_clause : List ℕ → Bool → Clause → Forms
+one_clause name last c = head_forms name ++ pat_forms c.pat ++ f.Mark (codes "=") ∷ body_forms last c.body
 
-abbrev pub several_clause : List ℕ → Clause → Forms
-several_clause name c = head_forms name ++ patterns_in (form_of_pat c.pat) ++ f.Mark (codes "=") ∷ c.body
+abbrev pub several_clause : List ℕ → Bool → Clause → Forms
+several_clause name last c = head_forms name ++ patterns_in (form_of_pat c.pat) ++ f.Mark (codes "=") ∷ body_forms last c.body
 
 -- the first rule has the name of a number for its pattern
 abbrev pub is_curried : List RuleInk → Bool
@@ -216,11 +283,11 @@ is_curried (r ∷ rs) = is_number (form_of_pat r.pat)
 abbrev pub function_forms : List ℕ × List RuleInk → Forms
 function_forms function =
     cond (is_curried function.1)
-    (parted (codes "|") (several_clause function.0) (inner_clauses function.1))
-    (parted (codes "|") (λ r. one_clause function.0 (clause_of r)) function.1)
+    (alternatives (several_clause function.0) (inner_clauses function.1))
+    (alternatives (λ last r. one_clause function.0 last (clause_of r)) function.1)
 
 abbrev pub bind_forms : Pat × Ink → Forms
-bind_forms bind = pat_forms bind.0 ++ f.Mark (codes "=") ∷ bind.1.forms
+bind_forms bind = pat_forms bind.0 ++ f.Mark (codes "=") ∷ bind.1.part.forms
 
 -- the variables before a type's name
 abbrev pub vars_forms : List (List ℕ) → Forms
@@ -256,8 +323,12 @@ rule_layer r = record { pat = r.pat; body = r.body }
 abbrev pub exp_ink : Exp → Ink
 exp_ink = fold-Exp Forms Ink Forms Forms Ink RuleInk dec_layer exp_layer piece_layer (λ d. d.form) (λ e. e.form) rule_layer
 
+-- without parentheses around it
+abbrev pub exp_part : Exp → Part
+exp_part e = (exp_ink e).part
+
 abbrev pub exp_forms : Exp → Forms
-exp_forms e = (exp_ink e).forms
+exp_forms e = (exp_part e).forms
 
 abbrev pub rule_ink : Rule → RuleInk
 rule_ink = fold-Rule Forms Ink Forms Forms Ink RuleInk dec_layer exp_layer piece_layer (λ d. d.form) (λ e. e.form) rule_layer
