@@ -41,7 +41,7 @@ abbrev pub before_bar : {A : Type 0} → (Bool → A → Forms) → A → Forms
 before_bar g x = g false x ++ f.Mark (codes "|") ∷ []
 
 -- those before the last one, each with a bar behind it, and the last one
-pub from_split : {A : Type 0} (g : Bool → A → Forms) (x : A) (xs : List A) (last : A) → alternatives_from g x (xs ++ last ∷ []) ≡ flat_map (before_bar g) (x ∷ xs) ++ g true last
+from_split : {A : Type 0} (g : Bool → A → Forms) (x : A) (xs : List A) (last : A) → alternatives_from g x (xs ++ last ∷ []) ≡ flat_map (before_bar g) (x ∷ xs) ++ g true last
 from_split g x [] last =
     sym (append_assoc (g false x) (f.Mark (codes "|") ∷ []) (g true last)) ∙ ap (λ z. z ++ g true last) (sym (append-nil (before_bar g x)))
 from_split g x (y ∷ ys) last =

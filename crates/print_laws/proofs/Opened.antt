@@ -1,6 +1,6 @@
 -- What is printed of a tree, by the parts of its form.
 use Rattle.std.proofs.Common.{◌≡◌, ℕ, List, [], ◌∷◌, ◌++◌, refl, ap, ap₂, sym, ◌∙◌, map}
-use Rattle.std.specs.Prelude.{codes, cond, Bool, true, Option, Some, None}
+use Rattle.std.specs.Prelude.{codes, cond, true, Option, Some, None}
 use Rattle.sml_syntax.specs.declared.token.TokenForm.{TokenForm}
 use Rattle.sml_syntax.specs.declared.token.TokenForm.TheVariants as f
 use Rattle.sml_syntax.specs.declared.tree.Span.{Span}

@@ -15,7 +15,7 @@ use Rattle.sml_syntax.specs.declared.tree.ExpForm.{ExpForm}
 use Rattle.sml_syntax.specs.declared.tree.DecForm.TheOpen.{DecForm-F, ExpForm-F, Piece-F}
 use Rattle.sml_syntax.specs.Layers.{ExpLayer, DecLayer, PatLayer, form_of_pat, form_of_exp}
 use Rattle.sml_syntax.specs.NestedTypes.{TyLayer}
-use Rattle.print_laws.specs.Printing.{Forms, in_parens, parted, alternatives, type_name, head_forms, name_forms, infix_of, is_lone, ty_forms, pat_forms, is_number, Part, put, barred, body_forms, left_place, right_place, Clause, one_clause, several_clause, anti_forms, plain_forms, exp_part, exp_forms, exp_ink, piece_forms, dec_forms, abbrev_forms, data_forms, con_def_forms}
+use Rattle.print_laws.specs.Printing.{Forms, in_parens, parted, alternatives, type_name, head_forms, name_forms, infix_of, is_lone, ty_forms, pat_forms, is_number, put, barred, body_forms, left_place, right_place, Clause, one_clause, several_clause, anti_forms, plain_forms, exp_part, exp_forms, exp_ink, piece_forms, dec_forms, abbrev_forms, data_forms, con_def_forms}
 
 -- types
 abbrev pub con_text : List ℕ → List Ty → Forms

@@ -164,7 +164,7 @@ closed level forms = record { level = level; opens = false; forms = forms }
 abbrev pub atomic : Forms → Part
 atomic forms = closed 15 forms
 
--- one behind which a match may be open
+-- a form that stands only where any expression does
 abbrev pub whole : Bool → Forms → Part
 whole opens forms = record { level = 0; opens = opens; forms = forms }
 
@@ -227,7 +227,7 @@ inner_clauses (r ∷ rs) = r.body.clauses
 abbrev pub exps_forms : List ℕ → List Ink → Forms
 exps_forms mark es = parted mark (λ (e : Ink). e.part.forms) es
 
--- an infix name between two operands, which is it applied to their tuple; anything else before its argument
+-- the application of an infix name to a tuple of two: the name between them; any other one: its function before its argument
 abbrev pub app_part : Option (ℕ × TokenForm) → List Part → Part → Part → Part
 app_part (Some operator) (left ∷ right ∷ []) function argument = closed (4 + operator.0) (put (left_place operator.0) left ++ operator.1 ∷ put (right_place operator.0) right)
 app_part _ _ function argument = closed 14 (put 14 function ++ put 15 argument)
