@@ -9,13 +9,14 @@ use Rattle.sml_syntax.specs.declared.tree.Span.{Span}
 use Rattle.sml_syntax.specs.declared.tree.Exp.{Exp}
 use Rattle.sml_syntax.specs.declared.tree.ExpForm.TheVariants as e
 use Rattle.sml_syntax.specs.declared.tree.Pat.{Pat}
+use Rattle.sml_syntax.specs.declared.tree.PatForm.TheVariants as p
 use Rattle.sml_syntax.specs.declared.tree.Ty.{Ty}
 use Rattle.sml_syntax.specs.InfixNames.{infix_level}
 use Rattle.sml_syntax.specs.Programs.{Each}
-use Rattle.sml_syntax.specs.Nodes.{exp_at}
-use Rattle.sml_syntax.specs.Grammar.{Tree, Phrase, Is, exp_tree, pat_tree, ty_tree, name_tree, head, atx, app, inf, tyx, andc, orc, expr, antiquoted, atpat, conty, IsMark, IsInfix, IsTypeName, short, long, head_name, head_op}
+use Rattle.sml_syntax.specs.Nodes.{exp_at, pat_at}
+use Rattle.sml_syntax.specs.Grammar.{Tree, Phrase, Is, exp_tree, pat_tree, ty_tree, name_tree, head, atx, app, inf, tyx, andc, orc, expr, antiquoted, pat, cpat, apat, atpat, ty, tupty, conty, IsMark, IsInfix, IsTypeName, short, long, head_name, head_op}
 use Rattle.print_laws.specs.SameTree.{Same}
-use Rattle.print_laws.specs.Printing.{Forms, Part, Ink, parted, alternatives_from, alternatives, has_dot, with_op, head_forms, unless_infix, type_name, ty_forms, pat_forms, exp_ink, anti_forms}
+use Rattle.print_laws.specs.Printing.{Forms, Part, Ink, parted, alternatives_from, alternatives, has_dot, with_op, head_forms, unless_infix, type_name, ty_part, PatInk, pat_ink, exp_ink, anti_forms}
 use Rattle.print_laws.proofs.Bearing.{Bears, bears_none, At, one, word, both, bin}
 
 -- a tree of the phrase that is the same
@@ -29,11 +30,51 @@ Many {A = A} inj phrase xs us = (y : A) × (ys : List A) × Is phrase us (inj (y
 abbrev pub Several : {A : Type 0} → (List A → Tree) → Phrase → List A → List Token → Type 0
 Several {A = A} inj phrase xs us = (y z : A) × (ys : List A) × Is phrase us (inj (y ∷ z ∷ ys)) [] × Same (inj xs) (inj (y ∷ z ∷ ys))
 
+-- a type of tokens of a level: it stands wherever one of that level or a lower one does
+pub record TyRanked (v : Bool) (level : ℕ) (ts : List Token) (y : Ty) : Type 0 where
+  pub anywhere : Is (ty v) ts (ty_tree y) []
+  pub before_arrow : 1 ≤ level → Is (tupty v) ts (ty_tree y) []
+  pub alone : 2 ≤ level → Is (conty v) ts (ty_tree y) []
+
+-- a tree of that level that is the same
+abbrev pub TyLevelOf : Bool → ℕ → Ty → List Token → Type 0
+TyLevelOf v level x ts = (y : Ty) × TyRanked v level ts y × Same (ty_tree x) (ty_tree y)
+
+abbrev pub TyPartAt : Bool → Part → Ty → Type 0
+TyPartAt v part x = At (TyLevelOf v part.level x) part.forms
+
 abbrev pub TyClaim : Bool → Ty → Type 0
-TyClaim v t = At (Of ty_tree (conty v) t) (ty_forms t)
+TyClaim v x = TyPartAt v (ty_part x) x
+
+-- a pattern of tokens of a level
+pub record PatRanked (level : ℕ) (ts : List Token) (y : Pat) : Type 0 where
+  pub anywhere : Is pat ts (pat_tree y) []
+  pub between : 1 ≤ level → Is cpat ts (pat_tree y) []
+  pub applied : 2 ≤ level → Is apat ts (pat_tree y) []
+  pub alone : 3 ≤ level → Is atpat ts (pat_tree y) []
+
+abbrev pub PatLevelOf : ℕ → Pat → List Token → Type 0
+PatLevelOf level x ts = (y : Pat) × PatRanked level ts y × Same (pat_tree x) (pat_tree y)
+
+-- of that level or a higher one
+abbrev pub PatAtLeast : ℕ → Pat → List Token → Type 0
+PatAtLeast level x ts = (y : Pat) × (l : ℕ) × (level ≤ l) × PatRanked l ts y × Same (pat_tree x) (pat_tree y)
+
+abbrev pub PatPartAt : Part → Pat → Type 0
+PatPartAt part x = At (PatLevelOf part.level x) part.forms
+
+-- what is printed of the two of a tuple is read as the same tuple's
+abbrev pub PatMembersOf : List Part → Pat → Type 0
+PatMembersOf [] x = Unit {0}
+PatMembersOf (l ∷ []) x = Unit {0}
+PatMembersOf (l ∷ r ∷ []) x = (u v : Pat) × PatPartAt l u × PatPartAt r v × ((s : Span) (y z : Pat) → Same (pat_tree u) (pat_tree y) → Same (pat_tree v) (pat_tree z) → Same (pat_tree x) (pat_tree (pat_at s (p.Tuple (y ∷ z ∷ [])))))
+PatMembersOf (l ∷ r ∷ p ∷ ps) x = Unit {0}
+
+abbrev pub PatInkClaim : PatInk → Pat → Type 0
+PatInkClaim i x = PatPartAt i.part x × PatMembersOf i.members x
 
 abbrev pub PatClaim : Pat → Type 0
-PatClaim p = At (Of pat_tree atpat p) (pat_forms p)
+PatClaim x = PatInkClaim (pat_ink x) x
 
 -- an expression of tokens of a level: it stands wherever one of that level or a lower one does
 pub record Ranked (level : ℕ) (opens : Bool) (ts : List Token) (y : Exp) : Type 0 where
@@ -45,11 +86,9 @@ pub record Ranked (level : ℕ) (opens : Bool) (ts : List Token) (y : Exp) : Typ
   pub applied : 14 ≤ level → Is app ts (exp_tree y) []
   pub alone : 15 ≤ level → Is atx ts (exp_tree y) []
 
--- a tree of that level that is the same
 abbrev pub LevelOf : ℕ → Bool → Exp → List Token → Type 0
 LevelOf level opens x ts = (y : Exp) × Ranked level opens ts y × Same (exp_tree x) (exp_tree y)
 
--- of that level or a higher one
 abbrev pub AtLeast : ℕ → Exp → List Token → Type 0
 AtLeast level x ts = (y : Exp) × (l : ℕ) × (o : Bool) × (level ≤ l) × Ranked l o ts y × Same (exp_tree x) (exp_tree y)
 

@@ -13,14 +13,14 @@ use Rattle.sml_syntax.specs.declared.tree.Dec.{Dec}
 use Rattle.sml_syntax.specs.declared.tree.DecForm.TheVariants as d
 use Rattle.sml_syntax.specs.Programs.{Each}
 use Rattle.sml_syntax.specs.Nodes.{exp_at, dec_at, span_of, extent}
-use Rattle.sml_syntax.specs.Grammar.{Is, exp_tree, exps_tree, pat_tree, text_tree, pieces_tree, dec_tree, decs_tree, binds_tree, atpat, exps, antiquoted, quoted, text_part, dec, decs, binds, atx_quote, atx_let, quoted_last, quoted_more, no_text, some_text, decs_none, decs_more, dec_val, dec_local, binds_one, binds_more}
+use Rattle.sml_syntax.specs.Grammar.{Is, exp_tree, exps_tree, pat_tree, text_tree, pieces_tree, dec_tree, decs_tree, binds_tree, pat, exps, antiquoted, quoted, text_part, dec, decs, binds, atx_quote, atx_let, quoted_last, quoted_more, no_text, some_text, decs_none, decs_more, dec_val, dec_local, binds_one, binds_more}
 use Rattle.print_laws.specs.SameTree.{same_quote, same_let, plain_piece, anti_piece, no_pieces, no_decs, more_decs, same_val, same_local, no_binds, more_binds}
 use Rattle.print_laws.specs.Printing.{parted, pat_forms, exps_forms, exp_forms, exp_ink, piece_forms, plain_forms, dec_forms, bind_forms}
 use Rattle.print_laws.proofs.Lists.{parted_map, flat_map_map}
 use Rattle.print_laws.proofs.Bearing.{At, Split, none, one, word, both, bin, wrap, tri}
 use Rattle.print_laws.proofs.Made.{ink-Quote, ink-Let, piece-Plain, piece-Anti, dec-Val, dec-Local}
 use Rattle.print_laws.proofs.Claims.{Of, Many, LevelOf, PatClaim, ExpClaim, mark, nil_end, parted_at, row_at, each_map}
-use Rattle.print_laws.proofs.PatternClaims.{whole_pat}
+use Rattle.print_laws.proofs.PatternClaims.{whole_pat_at}
 use Rattle.print_laws.proofs.ExpClaims.{by_atx, solid, WholeOf, exps_at, Behind, behind_at}
 
 -- quotations
@@ -92,15 +92,15 @@ abbrev pub BindClaim : Pat × Exp → Type 0
 BindClaim b = PatClaim b.0 × ExpClaim b.1
 
 abbrev BindOf : Pat × Exp → List Token → Type 0
-BindOf b = Split (Of pat_tree atpat b.0) (f.Mark (codes "=")) (WholeOf b.1)
+BindOf b = Split (Of pat_tree pat b.0) (f.Mark (codes "=")) (WholeOf b.1)
 
 bind_at : (b : Pat × Exp) → BindClaim b → At (BindOf b) (bind_forms (b.0, exp_ink b.1))
-bind_at b c = bin (Of pat_tree atpat b.0) (WholeOf b.1) (BindOf b) (pat_forms b.0) (f.Mark (codes "=")) (exp_forms b.1) (λ ts w us k q r. (ts, w, us, refl, k, q, r)) c.0 c.1.0
+bind_at b c = bin (Of pat_tree pat b.0) (WholeOf b.1) (BindOf b) (pat_forms b.0) (f.Mark (codes "=")) (exp_forms b.1) (λ ts w us k q r. (ts, w, us, refl, k, q, r)) (whole_pat_at b.0 c.0) c.1.0
 
 binds_at : (b : Pat × Exp) (bs : List (Pat × Exp)) → Each BindClaim (b ∷ bs) → At (Many binds_tree binds (b ∷ bs)) (parted (codes "and") (λ (b : Pat × Exp). bind_forms (b.0, exp_ink b.1)) (b ∷ bs))
 binds_at b bs h = parted_at (λ (b : Pat × Exp). bind_forms (b.0, exp_ink b.1)) (codes "and") BindOf (Many binds_tree binds)
-    (λ y ts q. subst (Many binds_tree binds (y ∷ [])) (sym q.3) ((q.5.0, q.6.0), [], binds_one q.1 (whole_pat q.5.1) (mark q.4) q.6.1.anywhere, more_binds q.5.2 q.6.2 no_binds))
-    (λ y z zs ts w us k q r. subst (λ n. Many binds_tree binds (y ∷ z ∷ zs) (n ++ w ∷ us)) (sym q.3) ((q.5.0, q.6.0), r.0 ∷ r.1, binds_more q.1 w (whole_pat q.5.1) (mark q.4) q.6.1.anywhere (mark k) r.2, more_binds q.5.2 q.6.2 r.3))
+    (λ y ts q. subst (Many binds_tree binds (y ∷ [])) (sym q.3) ((q.5.0, q.6.0), [], binds_one q.1 q.5.1 (mark q.4) q.6.1.anywhere, more_binds q.5.2 q.6.2 no_binds))
+    (λ y z zs ts w us k q r. subst (λ n. Many binds_tree binds (y ∷ z ∷ zs) (n ++ w ∷ us)) (sym q.3) ((q.5.0, q.6.0), r.0 ∷ r.1, binds_more q.1 w q.5.1 (mark q.4) q.6.1.anywhere (mark k) r.2, more_binds q.5.2 q.6.2 r.3))
     b bs (each_map BindClaim (λ b. At (BindOf b) (bind_forms (b.0, exp_ink b.1))) bind_at (b ∷ bs) h)
 
 pub val_claim : (i : Bool) (s : Span) (b : Pat × Exp) (bs : List (Pat × Exp)) → Each BindClaim (b ∷ bs) → DecClaim i (dec_at s (d.Val (b ∷ bs)))

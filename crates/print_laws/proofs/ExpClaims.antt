@@ -16,15 +16,15 @@ use Rattle.sml_syntax.specs.declared.tree.ExpForm.TheVariants as e
 use Rattle.sml_syntax.specs.InfixNames.{infix_level, symbol_level, word_level, or_else, groups_right}
 use Rattle.sml_syntax.specs.Programs.{Each}
 use Rattle.sml_syntax.specs.Nodes.{exp_at, rule_of, span_of, extent, infix_exp}
-use Rattle.sml_syntax.specs.Grammar.{Is, exp_tree, exps_tree, rule_tree, rules_tree, pat_tree, ty_tree, conty, atpat, atx, app, inf, tyx, andc, orc, expr, exps, antiquoted, match_of, rule_of_match, short, long, IsInfix, by_name, by_equals, atx_int, atx_char, atx_str, atx_name, atx_op, atx_op_equals, atx_unit, atx_paren, atx_tuple, atx_seq, atx_no_list, atx_list, anti_name, anti_exp, exps_one, exps_more, app_one, app_to, inf_top, inf_up, inf_left, inf_right, tyx_one, tyx_typed, andc_one, andc_both, orc_one, orc_either, exp_tail, exp_orc, exp_handle, tail_raise, tail_if, tail_case, tail_fn, match_last, match_more, one_rule}
+use Rattle.sml_syntax.specs.Grammar.{Is, exp_tree, exps_tree, rule_tree, rules_tree, pat_tree, ty_tree, ty, pat, atx, app, inf, tyx, andc, orc, expr, exps, antiquoted, match_of, rule_of_match, short, long, IsInfix, by_name, by_equals, atx_int, atx_char, atx_str, atx_name, atx_op, atx_op_equals, atx_unit, atx_paren, atx_tuple, atx_seq, atx_no_list, atx_list, anti_name, anti_exp, exps_one, exps_more, app_one, app_to, inf_top, inf_up, inf_left, inf_right, tyx_one, tyx_typed, andc_one, andc_both, orc_one, orc_either, exp_tail, exp_orc, exp_handle, tail_raise, tail_if, tail_case, tail_fn, match_last, match_more, one_rule}
 use Rattle.print_laws.specs.SameTree.{same_int, same_char, same_str, same_name, same_unit, same_tuple, same_list, same_seq, same_app, same_fn, same_case, same_handle, same_raise, same_if, same_both, same_either, same_typed, no_exps, more_exps, same_rule, no_rules, more_rules}
 use Rattle.print_laws.specs.Printing.{Forms, Part, Ink, RuleInk, closed, in_parens, has_dot, with_op, head_forms, name_forms, infix_word, infix_by, infix_of, is_lone, ty_forms, pat_forms, put, barred, body_forms, left_place, right_place, app_part, exps_forms, exp_part, exp_forms, exp_ink, rule_ink, rule_forms, match_forms, anti_forms}
 use Rattle.print_laws.proofs.Lists.{parted_map, alternatives_map}
 use Rattle.print_laws.proofs.Bearing.{At, one, word, both, bin, wrap, tri}
 use Rattle.print_laws.proofs.Made.{ink-Int, ink-Char, ink-Str, ink-Name, ink-Unit, ink-Tuple, ink-List, ink-Seq, ink-App, ink-Fn, ink-Case, ink-Handle, ink-Raise, ink-If, ink-Both, ink-Either, ink-Typed, ink-rule}
 use Rattle.print_laws.proofs.Claims.{Of, Many, Several, TyClaim, PatClaim, Ranked, LevelOf, AtLeast, PartAt, OperatorOf, MembersOf, InkClaim, ExpClaim, mark, two, parted_at, alternatives_at, each_map}
-use Rattle.print_laws.proofs.TypeClaims.{whole_ty}
-use Rattle.print_laws.proofs.PatternClaims.{whole_pat}
+use Rattle.print_laws.proofs.TypeClaims.{whole_ty_at}
+use Rattle.print_laws.proofs.PatternClaims.{whole_pat_at}
 
 -- from the phrase of each level
 pub by_expr : {ts : List Token} {x : Exp} (o : Bool) → Is (expr o) ts (exp_tree x) [] → Ranked 0 o ts x
@@ -364,9 +364,9 @@ either_claim s x y a b = solid (exp_at s (e.Either x y)) _ (ink-Either s x y) re
 
 pub typed_claim : (s : Span) (x : Exp) (t : Ty) → ExpClaim x → TyClaim false t → ExpClaim (exp_at s (e.Typed x t))
 typed_claim s x t a b = solid (exp_at s (e.Typed x t)) _ (ink-Typed s x t) refl
-    (bin (AtLeast 3 x) (Of ty_tree (conty false) t) (LevelOf 3 false (exp_at s (e.Typed x t))) (put 3 (exp_part x)) (f.Mark (codes ":")) (ty_forms t)
-    (λ ts w us k q r. (exp_at (extent (ts ++ w ∷ us)) (e.Typed q.0 r.0), by_tyx (tyx_typed w (q.4.typed q.3) (mark k) (whole_ty r.1)), same_typed s (extent (ts ++ w ∷ us)) q.5 r.2))
-    (put_at 3 x (exp_part x) (omega arith) a.0) b)
+    (bin (AtLeast 3 x) (Of ty_tree (ty false) t) (LevelOf 3 false (exp_at s (e.Typed x t))) (put 3 (exp_part x)) (f.Mark (codes ":")) (ty_forms t)
+    (λ ts w us k q r. (exp_at (extent (ts ++ w ∷ us)) (e.Typed q.0 r.0), by_tyx (tyx_typed w (q.4.typed q.3) (mark k) r.1), same_typed s (extent (ts ++ w ∷ us)) q.5 r.2))
+    (put_at 3 x (exp_part x) (omega arith) a.0) (whole_ty_at false t b))
     tt tt
 
 pub raise_claim : (s : Span) (x : Exp) → ExpClaim x → ExpClaim (exp_at s (e.Raise x))
@@ -407,8 +407,8 @@ RuleOf last r ts = (o : Bool) × Ends last o × Of rule_tree (rule_of_match o) r
 rule_at : (r : Rule) → RuleClaim r → (last : Bool) → At (RuleOf last r) (rule_forms last (rule_ink r))
 rule_at r c last = subst (λ q. At (RuleOf last q) (rule_forms last (rule_ink q))) c.is
     (subst (λ (i : RuleInk). At (RuleOf last (rule_of c.left c.body)) (rule_forms last i)) (sym (ink-rule c.left c.body))
-    (bin (Of pat_tree atpat c.left) (BodyOf last c.body) (RuleOf last (rule_of c.left c.body)) (pat_forms c.left) (f.Mark (codes "=>")) (body_forms last (exp_part c.body))
-    (λ ts w us k q r. (r.0, r.1, (rule_of q.0 r.2.0, one_rule w (whole_pat q.1) (mark k) r.2.1, same_rule q.2 r.2.2))) c.pat_claim (body_at last c.body (exp_part c.body) c.exp_claim.0)))
+    (bin (Of pat_tree pat c.left) (BodyOf last c.body) (RuleOf last (rule_of c.left c.body)) (pat_forms c.left) (f.Mark (codes "=>")) (body_forms last (exp_part c.body))
+    (λ ts w us k q r. (r.0, r.1, (rule_of q.0 r.2.0, one_rule w q.1 (mark k) r.2.1, same_rule q.2 r.2.2))) (whole_pat_at c.left c.pat_claim) (body_at last c.body (exp_part c.body) c.exp_claim.0)))
 
 pub match_at : (r : Rule) (rs : List Rule) → Each RuleClaim (r ∷ rs) → At (Many rules_tree match_of (r ∷ rs)) (match_forms (map rule_ink (r ∷ rs)))
 match_at r rs h = subst (At (Many rules_tree match_of (r ∷ rs))) (sym (alternatives_map rule_forms rule_ink (r ∷ rs)))

@@ -21,87 +21,123 @@ use Rattle.sml_syntax.specs.Programs.{Each}
 use Rattle.sml_syntax.specs.Layers.{form_of_pat}
 use Rattle.sml_syntax.specs.Nodes.{exp_at, pat_at, ty_at, dec_at, rule_of, clause_pat, curried, function_rules, it_dec}
 use Rattle.print_laws.specs.Bytes.{Before, Fresh, Behind_text, Behind_name, Shape, Outside, Quoted, Inside, shape_around, Stands, MayFollow, Fits, fits_quote, fits_inner_quote, fits_anti_to, fits_text, fits_anti, fits_anti_from, fits_quote_to}
-use Rattle.print_laws.specs.Printing.{Forms, Part, Ink, RuleInk, atomic, in_parens, parted, alternatives, head_forms, name_forms, infix_of, is_lone, type_name, con_forms, starred, ty_forms, pat_forms, put, barred, body_forms, left_place, right_place, app_part, exp_part, exp_forms, exp_ink, rule_ink, rule_forms, match_forms, exps_forms, anti_forms, plain_forms, piece_forms, dec_forms, clause_of, one_clause, several_clause, patterns_in, is_number, inner_clauses, function_forms, bind_forms, vars_forms, abbrev_forms, argument_forms, con_def_forms, data_forms}
+use Rattle.print_laws.specs.Printing.{Forms, Part, PatInk, Ink, RuleInk, closed, atomic, in_parens, parted, alternatives, head_forms, name_forms, infix_of, is_lone, type_name, con_forms, starred, ty_part, ty_forms, put_ty, is_cons, applied_pat, con_pat, pats_forms, pat_ink, pat_part, pat_forms, put_pat, put, barred, body_forms, left_place, right_place, app_part, exp_part, exp_forms, exp_ink, rule_ink, rule_forms, match_forms, exps_forms, anti_forms, plain_forms, piece_forms, dec_forms, clause_of, one_clause, several_clause, patterns_in, is_number, inner_clauses, function_forms, bind_forms, vars_forms, abbrev_forms, argument_forms, con_def_forms, data_forms}
 use Rattle.print_laws.specs.ReadBack.{IsFine}
 use Rattle.print_laws.specs.Spelt.{SpeltAnti, IsSpelt, Parts, Starts, Followed}
 use Rattle.print_laws.proofs.Lists.{alternatives_map, flat_map_map}
 use Rattle.print_laws.proofs.Made.{ink-Int, ink-Char, ink-Str, ink-Name, ink-Unit, ink-Tuple, ink-List, ink-Seq, ink-App, ink-Let, ink-Fn, ink-Case, ink-Handle, ink-Raise, ink-If, ink-Both, ink-Either, ink-Quote, ink-Typed, ink-rule, pat-Any, pat-Int, pat-Char, pat-Str, pat-Unit, pat-Name, pat-Tuple, pat-List, pat-Con, pat-Typed, form-Tuple, ty-Var, ty-Con, ty-Tuple, ty-Arrow, piece-Plain, piece-Anti, dec-Val, dec-ValRec, dec-Abbrev, dec-DataDef, dec-ExnDef, dec-Local}
 use Rattle.print_laws.proofs.Claims.{each_map}
 use Rattle.print_laws.proofs.FunClaims.{curried_ink, curried_number}
-use Rattle.print_laws.proofs.FitForms.{Reads, Goes, Steady, OperatorGoes, none, then, one, join, parens, unit, between, choices, row, each_of, open_list, close_list, comma, semicolon, wild, colon, arrow, bar, to, equals, star, word_let, word_in, word_end, word_fn, word_case, word_of, word_handle, word_raise, word_if, word_then, word_else, word_andalso, word_orelse, word_val, word_fun, word_and, word_type, word_datatype, word_exception, word_local, headed, expressed, it_headed}
+use Rattle.print_laws.proofs.FitForms.{Reads, Goes, Steady, OperatorGoes, none, then, one, join, parens, unit, between, choices, row, each_of, open_list, close_list, comma, semicolon, wild, colon, arrow, bar, to, equals, star, cons, word_let, word_in, word_end, word_fn, word_case, word_of, word_handle, word_raise, word_if, word_then, word_else, word_andalso, word_orelse, word_val, word_fun, word_and, word_type, word_datatype, word_exception, word_local, headed, expressed, it_headed}
+
+-- Parts
+
+abbrev pub PartGoes : Part → Type 0
+PartGoes p = Goes p.forms
+
+put_goes : (level : ℕ) (p : Part) → PartGoes p → Goes (put level p)
+unfolding put
+put_goes level p k = go (nat_lt p.level level)
+  where
+    go : (b : Bool) → Goes (cond b (in_parens p.forms) p.forms)
+    go true = parens p.forms k
+    go false = k
+
+word_between : (m : List ℕ) (x y : Forms) → Steady (f.Mark m) → Goes x → Goes y → Goes (x ++ f.Mark m ∷ y)
+word_between m x y k a b = join x (f.Mark m ∷ y) a (then (f.Mark m) y k b)
 
 -- Types
 
 abbrev pub TyGoes : Ty → Type 0
-TyGoes x = Goes (ty_forms x)
+TyGoes x = PartGoes (ty_part x)
 
 pub var_goes : (s : Span) (name : List ℕ) → ((ends : Bool) → Stands ends (f.TyVar name)) → TyGoes (ty_at s (t.Var name))
-var_goes s name k = subst Goes (sym (ty-Var s name)) (one (f.TyVar name) (record { stands = k; keeps = λ n. refl }))
+var_goes s name k = subst PartGoes (sym (ty-Var s name)) (one (f.TyVar name) (record { stands = k; keeps = λ n. refl }))
 
-con_row : (name : List ℕ) (xs : List Forms) → Steady (type_name name) → Each Goes xs → Goes (con_forms name xs)
+con_row : (name : List ℕ) (xs : List Part) → Steady (type_name name) → Each PartGoes xs → Goes (con_forms name xs)
 con_row name [] k h = one (type_name name) k
-con_row name (x ∷ []) k h = join x (type_name name ∷ []) h.0 (one (type_name name) k)
+con_row name (x ∷ []) k h = join (put 2 x) (type_name name ∷ []) (put_goes 2 x h.0) (one (type_name name) k)
 con_row name (x ∷ y ∷ ys) k h =
-    let p : Forms = parted (codes ",") (λ t. t) (x ∷ y ∷ ys) in
+    let p : Forms = parted (codes ",") (λ (t : Part). t.forms) (x ∷ y ∷ ys) in
     subst Goes (append_assoc (f.Mark (codes "(") ∷ p) (f.Mark (codes ")") ∷ []) (type_name name ∷ []))
-    (join (in_parens p) (type_name name ∷ []) (parens p (between (codes ",") (λ t. t) (x ∷ y ∷ ys) comma h)) (one (type_name name) k))
+    (join (in_parens p) (type_name name ∷ []) (parens p (between (codes ",") (λ (t : Part). t.forms) (x ∷ y ∷ ys) comma h)) (one (type_name name) k))
 
 pub con_goes : (s : Span) (name : List ℕ) (xs : List Ty) → Steady (type_name name) → Each TyGoes xs → TyGoes (ty_at s (t.Con name xs))
-con_goes s name xs k h = subst Goes (sym (ty-Con s name xs)) (con_row name (map ty_forms xs) k (each_of ty_forms Goes xs h))
+con_goes s name xs k h = subst PartGoes (sym (ty-Con s name xs)) (con_row name (map ty_part xs) k (each_of ty_part PartGoes xs h))
 
-star_row : (xs : List Forms) → Each Goes xs → Goes (starred xs)
+star_row : (xs : List Part) → Each PartGoes xs → Goes (starred xs)
 star_row [] h = none
-star_row (x ∷ xs) h = join x (flat_map (λ t. f.Name (codes "*") ∷ t) xs) h.0 (row (λ t. f.Name (codes "*") ∷ t) xs (each_map Goes (λ t. Goes (f.Name (codes "*") ∷ t)) (λ t k. then (f.Name (codes "*")) t star k) xs h.1))
+star_row (x ∷ xs) h =
+    join (put 2 x) (flat_map (λ (t : Part). f.Name (codes "*") ∷ put 2 t) xs) (put_goes 2 x h.0)
+    (row (λ (t : Part). f.Name (codes "*") ∷ put 2 t) xs (each_map PartGoes (λ (t : Part). Goes (f.Name (codes "*") ∷ put 2 t)) (λ t k. then (f.Name (codes "*")) (put 2 t) star (put_goes 2 t k)) xs h.1))
 
 pub ty_tuple_goes : (s : Span) (xs : List Ty) → Each TyGoes xs → TyGoes (ty_at s (t.Tuple xs))
-ty_tuple_goes s xs h = subst Goes (sym (ty-Tuple s xs)) (parens (starred (map ty_forms xs)) (star_row (map ty_forms xs) (each_of ty_forms Goes xs h)))
+ty_tuple_goes s xs h = subst PartGoes (sym (ty-Tuple s xs)) (star_row (map ty_part xs) (each_of ty_part PartGoes xs h))
 
 pub arrow_goes : (s : Span) (x y : Ty) → TyGoes x → TyGoes y → TyGoes (ty_at s (t.Arrow x y))
-arrow_goes s x y a b = subst Goes (sym (ty-Arrow s x y)) (parens (ty_forms x ++ f.Mark (codes "->") ∷ ty_forms y) (join (ty_forms x) (f.Mark (codes "->") ∷ ty_forms y) a (then (f.Mark (codes "->")) (ty_forms y) to b)))
+arrow_goes s x y a b = subst PartGoes (sym (ty-Arrow s x y)) (word_between (codes "->") (put_ty 1 x) (ty_forms y) to (put_goes 1 (ty_part x) a) b)
 
 -- Patterns
 
+abbrev pub PatInkGoes : PatInk → Type 0
+PatInkGoes i = PartGoes i.part × Each PartGoes i.members
+
 abbrev pub PatGoes : Pat → Type 0
-PatGoes x = Goes (pat_forms x)
+PatGoes x = PatInkGoes (pat_ink x)
+
+pat_made : (x : Pat) (i : PatInk) → pat_ink x ≡ i → Each PartGoes i.members → PartGoes i.part → PatGoes x
+pat_made x i h m g = subst PatInkGoes (sym h) (g, m)
 
 pub any_goes : (s : Span) → PatGoes (pat_at s p.Any)
-any_goes s = subst Goes (sym (pat-Any s)) (one (f.Mark (codes "_")) wild)
+any_goes s = pat_made (pat_at s p.Any) _ (pat-Any s) tt (one (f.Mark (codes "_")) wild)
 
 pub pat_int_goes : (s : Span) (n : ℤ) → ((ends : Bool) → Stands ends (f.Int n)) → PatGoes (pat_at s (p.Int n))
-pat_int_goes s n k = subst Goes (sym (pat-Int s n)) (one (f.Int n) (record { stands = k; keeps = λ m. refl }))
+pat_int_goes s n k = pat_made (pat_at s (p.Int n)) _ (pat-Int s n) tt (one (f.Int n) (record { stands = k; keeps = λ m. refl }))
 
 pub pat_char_goes : (s : Span) (b : ℕ) → ((ends : Bool) → Stands ends (f.Char b)) → PatGoes (pat_at s (p.Char b))
-pat_char_goes s b k = subst Goes (sym (pat-Char s b)) (one (f.Char b) (record { stands = k; keeps = λ m. refl }))
+pat_char_goes s b k = pat_made (pat_at s (p.Char b)) _ (pat-Char s b) tt (one (f.Char b) (record { stands = k; keeps = λ m. refl }))
 
 pub pat_str_goes : (s : Span) (w : List ℕ) → ((ends : Bool) → Stands ends (f.Str w)) → PatGoes (pat_at s (p.Str w))
-pat_str_goes s w k = subst Goes (sym (pat-Str s w)) (one (f.Str w) (record { stands = k; keeps = λ m. refl }))
+pat_str_goes s w k = pat_made (pat_at s (p.Str w)) _ (pat-Str s w) tt (one (f.Str w) (record { stands = k; keeps = λ m. refl }))
 
 pub pat_unit_goes : (s : Span) → PatGoes (pat_at s p.Unit)
-pat_unit_goes s = subst Goes (sym (pat-Unit s)) unit
+pat_unit_goes s = pat_made (pat_at s p.Unit) _ (pat-Unit s) tt unit
 
 pub pat_name_goes : (s : Span) (name : List ℕ) → Goes (head_forms name) → PatGoes (pat_at s (p.Name name))
-pat_name_goes s name k = subst Goes (sym (pat-Name s name)) k
+pat_name_goes s name k = pat_made (pat_at s (p.Name name)) _ (pat-Name s name) tt k
+
+pats_go : (xs : List Pat) → Each PatGoes xs → Each (λ (i : PatInk). PartGoes i.part) (map pat_ink xs)
+pats_go xs h = each_map PatInkGoes (λ (i : PatInk). PartGoes i.part) (λ i k. k.0) (map pat_ink xs) (each_of pat_ink PatInkGoes xs h)
+
+commas_go : (xs : List Pat) → Each PatGoes xs → Goes (pats_forms (map pat_ink xs))
+commas_go xs h = between (codes ",") (λ (i : PatInk). i.part.forms) (map pat_ink xs) comma (pats_go xs h)
 
 pub pat_tuple_goes : (s : Span) (xs : List Pat) → Each PatGoes xs → PatGoes (pat_at s (p.Tuple xs))
-pat_tuple_goes s xs h = subst Goes (sym (pat-Tuple s xs)) (parens (parted (codes ",") (λ q. q) (map pat_forms xs)) (between (codes ",") (λ q. q) (map pat_forms xs) comma (each_of pat_forms Goes xs h)))
+pat_tuple_goes s xs h = pat_made (pat_at s (p.Tuple xs)) _ (pat-Tuple s xs) (each_of (λ (i : PatInk). i.part) PartGoes (map pat_ink xs) (pats_go xs h)) (parens (pats_forms (map pat_ink xs)) (commas_go xs h))
 
 pub pat_list_goes : (s : Span) (xs : List Pat) → Each PatGoes xs → PatGoes (pat_at s (p.List xs))
-pat_list_goes s xs h = subst Goes (sym (pat-List s xs))
-    (join (f.Mark (codes "[") ∷ parted (codes ",") (λ q. q) (map pat_forms xs)) (f.Mark (codes "]") ∷ [])
-    (then (f.Mark (codes "[")) (parted (codes ",") (λ q. q) (map pat_forms xs)) open_list (between (codes ",") (λ q. q) (map pat_forms xs) comma (each_of pat_forms Goes xs h)))
+pat_list_goes s xs h = pat_made (pat_at s (p.List xs)) _ (pat-List s xs) tt
+    (join (f.Mark (codes "[") ∷ pats_forms (map pat_ink xs)) (f.Mark (codes "]") ∷ [])
+    (then (f.Mark (codes "[")) (pats_forms (map pat_ink xs)) open_list (commas_go xs h))
     (one (f.Mark (codes "]")) close_list))
 
+con_part_goes : (name : List ℕ) (ps : List Part) (q : Part) → Goes (head_forms name) → Each PartGoes ps → PartGoes q → PartGoes (con_pat name ps q)
+con_part_goes name [] q k h a = join (head_forms name) (put 3 q) k (put_goes 3 q a)
+con_part_goes name (l ∷ []) q k h a = join (head_forms name) (put 3 q) k (put_goes 3 q a)
+con_part_goes name (l ∷ r ∷ []) q k h a = go (is_cons name)
+  where
+    go : (b : Bool) → PartGoes (cond b (closed 1 (put 2 l ++ f.Name (codes "::") ∷ put 1 r)) (applied_pat name q))
+    go true = join (put 2 l) (f.Name (codes "::") ∷ put 1 r) (put_goes 2 l h.0) (then (f.Name (codes "::")) (put 1 r) cons (put_goes 1 r h.1.0))
+    go false = join (head_forms name) (put 3 q) k (put_goes 3 q a)
+con_part_goes name (l ∷ r ∷ t ∷ ts) q k h a = join (head_forms name) (put 3 q) k (put_goes 3 q a)
+
 pub pat_con_goes : (s : Span) (name : List ℕ) (x : Pat) → Goes (head_forms name) → PatGoes x → PatGoes (pat_at s (p.Con name x))
-pat_con_goes s name x k a = subst Goes (sym (pat-Con s name x)) (parens (head_forms name ++ pat_forms x) (join (head_forms name) (pat_forms x) k a))
+pat_con_goes s name x k a = pat_made (pat_at s (p.Con name x)) _ (pat-Con s name x) tt (con_part_goes name (pat_ink x).members (pat_part x) k a.1 a.0)
 
 pub pat_typed_goes : (s : Span) (x : Pat) (t : Ty) → PatGoes x → TyGoes t → PatGoes (pat_at s (p.Typed x t))
-pat_typed_goes s x t a b = subst Goes (sym (pat-Typed s x t)) (parens (pat_forms x ++ f.Mark (codes ":") ∷ ty_forms t) (join (pat_forms x) (f.Mark (codes ":") ∷ ty_forms t) a (then (f.Mark (codes ":")) (ty_forms t) colon b)))
+pat_typed_goes s x t a b = pat_made (pat_at s (p.Typed x t)) _ (pat-Typed s x t) tt (word_between (codes ":") (put_pat 1 x) (ty_forms t) colon (put_goes 1 (pat_part x) a.0) b)
 
 -- Expressions
-
--- the parts of a tuple
-abbrev pub PartGoes : Part → Type 0
-PartGoes p = Goes p.forms
 
 -- one that isn't a name which can only stand behind `^`
 abbrev pub InkGoes : Ink → Type 0
@@ -112,14 +148,6 @@ ExpGoes x = InkGoes (exp_ink x)
 
 made : (x : Exp) (i : Ink) → exp_ink x ≡ i → i.lone ≡ None → OperatorGoes i.operator → Each PartGoes i.members → Goes i.part.forms → ExpGoes x
 made x i h l o m g = subst InkGoes (sym h) (g, l, o, m)
-
-put_goes : (level : ℕ) (p : Part) → PartGoes p → Goes (put level p)
-unfolding put
-put_goes level p k = go (nat_lt p.level level)
-  where
-    go : (b : Bool) → Goes (cond b (in_parens p.forms) p.forms)
-    go true = parens p.forms k
-    go false = k
 
 body_goes : (last : Bool) (p : Part) → PartGoes p → Goes (body_forms last p)
 unfolding barred
@@ -179,9 +207,6 @@ app_goes s x y a b = made (exp_at s (e.App x y)) _ (ink-App s x y) refl tt tt (a
 pub infix_goes : (s r : Span) (name : List ℕ) (x y : Exp) → ExpGoes (exp_at r (e.Name name)) → ExpGoes x → ExpGoes y → ExpGoes (exp_at s (e.App (exp_at r (e.Name name)) (exp_at s (e.Tuple (x ∷ y ∷ [])))))
 infix_goes s r name x y k a b = app_goes s (exp_at r (e.Name name)) (exp_at s (e.Tuple (x ∷ y ∷ []))) k (tuple_goes s (x ∷ y ∷ []) (a, (b, tt)))
 
-word_between : (m : List ℕ) (x y : Forms) → Steady (f.Mark m) → Goes x → Goes y → Goes (x ++ f.Mark m ∷ y)
-word_between m x y k a b = join x (f.Mark m ∷ y) a (then (f.Mark m) y k b)
-
 pub both_goes : (s : Span) (x y : Exp) → ExpGoes x → ExpGoes y → ExpGoes (exp_at s (e.Both x y))
 both_goes s x y a b = made (exp_at s (e.Both x y)) _ (ink-Both s x y) refl tt tt (word_between (codes "andalso") (put 3 (exp_part x)) (put 2 (exp_part y)) word_andalso (put_goes 3 (exp_part x) a.0) (put_goes 2 (exp_part y) b.0))
 
@@ -210,7 +235,7 @@ pub rule_goes : (x : Pat) (b : Exp) → PatGoes x → ExpGoes b → RuleGoes (ru
 rule_goes x b k c = subst RuleInkGoes (sym (ink-rule x b)) (k, c)
 
 rule_ink_goes : (r : RuleInk) → RuleInkGoes r → (last : Bool) → Goes (rule_forms last r)
-rule_ink_goes r k last = word_between (codes "=>") (pat_forms r.pat) (body_forms last r.body.part) arrow k.0 (body_goes last r.body.part k.1.0)
+rule_ink_goes r k last = word_between (codes "=>") (pat_forms r.pat) (body_forms last r.body.part) arrow k.0.0 (body_goes last r.body.part k.1.0)
 
 match_goes : (rs : List Rule) → Each RuleGoes rs → Goes (match_forms (map rule_ink rs))
 match_goes rs h = choices rule_forms (map rule_ink rs) bar
@@ -253,7 +278,7 @@ val_goes s bs h = subst Goes (sym (dec-Val s bs))
     (then (f.Mark (codes "val")) (parted (codes "and") bind_forms (map (λ (b : Pat × Exp). (b.0, exp_ink b.1)) bs)) word_val
     (between (codes "and") bind_forms (map (λ (b : Pat × Exp). (b.0, exp_ink b.1)) bs) word_and
     (each_of (λ (b : Pat × Exp). (b.0, exp_ink b.1)) (λ b. Goes (bind_forms b)) bs
-    (each_map BindGoes (λ (b : Pat × Exp). Goes (bind_forms (b.0, exp_ink b.1))) (λ b k. word_between (codes "=") (pat_forms b.0) (exp_forms b.1) equals k.0 k.1.0) bs h))))
+    (each_map BindGoes (λ (b : Pat × Exp). Goes (bind_forms (b.0, exp_ink b.1))) (λ b k. word_between (codes "=") (pat_forms b.0) (exp_forms b.1) equals k.0.0 k.1.0) bs h))))
 
 pub it_goes : (s : Span) (x : Exp) → ExpGoes x → DecGoes (it_dec s x)
 it_goes s x a = val_goes s ((pat_at s (p.Name (codes "it")), x) ∷ []) ((pat_name_goes s (codes "it") it_headed, a), tt)
@@ -309,8 +334,11 @@ FunGoes g = Goes (function_forms (g.0, map rule_ink g.1))
 clause_goes : (name : List ℕ) (last : Bool) (q : Forms) (i : Ink) → Goes (head_forms name) → Goes q → InkGoes i → Goes (head_forms name ++ q ++ f.Mark (codes "=") ∷ body_forms last i.part)
 clause_goes name last q i h k a = word_between (codes "=") (head_forms name ++ q) (body_forms last i.part) equals (join (head_forms name) q h k) (body_goes last i.part a.0)
 
+alone_goes : (x : Pat) → PatGoes x → Goes (put_pat 3 x)
+alone_goes x k = put_goes 3 (pat_part x) k.0
+
 pub one_goes : (name : List ℕ) (r : RuleInk) → Goes (head_forms name) → RuleInkGoes r → NotNumber r → ClauseGoes false name r
-one_goes name r h k n = (λ last. clause_goes name last (pat_forms r.pat) r.body h k.0 k.1, n)
+one_goes name r h k n = (λ last. clause_goes name last (put_pat 3 r.pat) r.body h (alone_goes r.pat k.0) k.1, n)
 
 pub clause_read : (name : List ℕ) (n : ℕ) (s : Span) (x : Pat) (xs : List Pat) (b : Exp) → Goes (head_forms name) → Each PatGoes (x ∷ xs) → is_number (form_of_pat x) ≡ false → length (x ∷ xs) ≡ n → ExpGoes b →
     ClauseGoes (nat_lt 1 n) name (rule_ink (rule_of (clause_pat s x xs) b))
@@ -321,7 +349,7 @@ clause_read name n s x xs b h k g l a = subst (λ m. ClauseGoes (nat_lt 1 m) nam
     go (y ∷ ys) k =
         let form = form-Tuple s (x ∷ y ∷ ys) in
         subst (λ c. ClauseGoes c name (record { pat = clause_pat s x (y ∷ ys); body = exp_ink b })) (sym (lt-ltb 1 (suc (suc (length ys))) (omega arith)))
-        (λ last. subst (λ q. Goes (head_forms name ++ q ++ f.Mark (codes "=") ∷ body_forms last (exp_part b))) (sym (ap patterns_in form)) (clause_goes name last (flat_map pat_forms (x ∷ y ∷ ys)) (exp_ink b) h (row pat_forms (x ∷ y ∷ ys) k) a), ap is_number form)
+        (λ last. subst (λ q. Goes (head_forms name ++ q ++ f.Mark (codes "=") ∷ body_forms last (exp_part b))) (sym (ap patterns_in form)) (clause_goes name last (flat_map (put_pat 3) (x ∷ y ∷ ys)) (exp_ink b) h (row (put_pat 3) (x ∷ y ∷ ys) (each_map PatGoes (λ z. Goes (put_pat 3 z)) alone_goes (x ∷ y ∷ ys) k)) a), ap is_number form)
 
 each_clause : (several : Bool) (name : List ℕ) (rs : List RuleInk) → Each (ClauseGoes several name) rs → Goes (alternatives (clause_forms several name) rs)
 each_clause several name rs h = choices (clause_forms several name) rs bar (each_map (ClauseGoes several name) (λ r. (last : Bool) → Goes (clause_forms several name last r)) (λ r k. k.0) rs h)

@@ -116,6 +116,9 @@ equals = record { stands = marks.equals; keeps = λ n. refl }
 pub star : Steady (f.Name (codes "*"))
 star = record { stands = marks.star; keeps = λ n. refl }
 
+pub cons : Steady (f.Name (codes "::"))
+cons = record { stands = marks.cons; keeps = λ n. refl }
+
 pub word_op : Steady (f.Mark (codes "op"))
 word_op = record { stands = marks.word_op; keeps = λ n. refl }
 

@@ -17,11 +17,12 @@ use Rattle.sml_syntax.specs.Layers.{form_of_pat}
 use Rattle.sml_syntax.specs.Nodes.{exp_at, pat_at, dec_at, rule_of, extent, clause_pat, numbers, nested, curried, function_rules, number_rule}
 use Rattle.sml_syntax.specs.Grammar.{Is, exp_tree, exps_tree, rule_tree, rules_tree, recs_tree, pat_tree, pats_tree, dec_tree, atpat, atpats, clause, clauses, funs, dec, atpats_none, atpats_more, clause_plain, clauses_last, clauses_more, funs_one, funs_more, dec_fun}
 use Rattle.print_laws.specs.SameTree.{Same, same_name, same_tuple, same_fn, same_case, no_exps, more_exps, same_rule, no_rules, more_rules, same_pat_name, same_pat_tuple, no_pats, more_pats, no_recs, more_recs, same_rec}
-use Rattle.print_laws.specs.Printing.{Forms, Ink, RuleInk, Clause, parted, alternatives, head_forms, pat_forms, body_forms, exp_part, exp_ink, rule_ink, clause_of, one_clause, several_clause, patterns_in, is_number, begins_number, inner_clauses, function_forms}
+use Rattle.print_laws.specs.Printing.{Forms, Ink, RuleInk, Clause, parted, alternatives, head_forms, put_pat, body_forms, exp_part, exp_ink, rule_ink, clause_of, one_clause, several_clause, patterns_in, is_number, begins_number, inner_clauses, function_forms}
 use Rattle.print_laws.proofs.Lists.{parted_map, alternatives_map}
 use Rattle.print_laws.proofs.Bearing.{At, word, both, bin}
 use Rattle.print_laws.proofs.Made.{ink-Fn, ink-Case, ink-rule, form-Tuple, form-Name, dec-ValRec}
 use Rattle.print_laws.proofs.Claims.{Of, Many, PatClaim, ExpClaim, IsHead, head_at, mark, parted_at, alternatives_at, row_at, each_map}
+use Rattle.print_laws.proofs.PatternClaims.{alone_at}
 use Rattle.print_laws.proofs.ExpClaims.{Ends, BodyOf, body_at}
 use Rattle.print_laws.proofs.DecClaims.{DecClaim}
 
@@ -93,17 +94,18 @@ Rows xs ts = (ys : List Pat) × Is (atpats (length xs)) ts (pats_tree ys) [] × 
 abbrev ManyRows : Pat → List Pat → List Token → Type 0
 ManyRows x xs ts = (y : Pat) × (ys : List Pat) × Is (atpats (suc (length xs))) ts (pats_tree (y ∷ ys)) [] × Same (pats_tree (x ∷ xs)) (pats_tree (y ∷ ys))
 
-rows_at : (xs : List Pat) → Each PatClaim xs → At (Rows xs) (flat_map pat_forms xs)
-rows_at xs h = row_at pat_forms (Of pat_tree atpat) Rows ([], atpats_none, no_pats) (λ x xs ts us q r. (q.0 ∷ r.0, atpats_more q.1 r.1, more_pats q.2 r.2)) xs h
+rows_at : (xs : List Pat) → Each PatClaim xs → At (Rows xs) (flat_map (put_pat 3) xs)
+rows_at xs h = row_at (put_pat 3) (Of pat_tree atpat) Rows ([], atpats_none, no_pats) (λ x xs ts us q r. (q.0 ∷ r.0, atpats_more q.1 r.1, more_pats q.2 r.2))
+    xs (each_map PatClaim (λ x. At (Of pat_tree atpat x) (put_pat 3 x)) alone_at xs h)
 
-many_rows_at : (x : Pat) (xs : List Pat) → Each PatClaim (x ∷ xs) → At (ManyRows x xs) (flat_map pat_forms (x ∷ xs))
-many_rows_at x xs h = both (Of pat_tree atpat x) (Rows xs) (ManyRows x xs) (pat_forms x) (flat_map pat_forms xs) (λ ts us q r. (q.0, r.0, atpats_more q.1 r.1, more_pats q.2 r.2)) h.0 (rows_at xs h.1)
+many_rows_at : (x : Pat) (xs : List Pat) → Each PatClaim (x ∷ xs) → At (ManyRows x xs) (flat_map (put_pat 3) (x ∷ xs))
+many_rows_at x xs h = both (Of pat_tree atpat x) (Rows xs) (ManyRows x xs) (put_pat 3 x) (flat_map (put_pat 3) xs) (λ ts us q r. (q.0, r.0, atpats_more q.1 r.1, more_pats q.2 r.2)) (alone_at x h.0) (rows_at xs h.1)
 
-one_row : (x : Pat) → PatClaim x → At (Row x []) (pat_forms x)
-one_row x h = λ ts b. let q = h ts b in (q.0, [], subst (λ z. Is (atpats 1) z (pats_tree (q.0 ∷ [])) []) (append-nil ts) (atpats_more q.1 atpats_none), λ s r. q.2)
+one_row : (x : Pat) → PatClaim x → At (Row x []) (put_pat 3 x)
+one_row x h = λ ts b. let q = alone_at x h ts b in (q.0, [], subst (λ z. Is (atpats 1) z (pats_tree (q.0 ∷ [])) []) (append-nil ts) (atpats_more q.1 atpats_none), λ s r. q.2)
 
-several_row : (x y : Pat) (ys : List Pat) → Each PatClaim (x ∷ y ∷ ys) → At (Row x (y ∷ ys)) (flat_map pat_forms (x ∷ y ∷ ys))
-several_row x y ys h = both (Of pat_tree atpat x) (ManyRows y ys) (Row x (y ∷ ys)) (pat_forms x) (flat_map pat_forms (y ∷ ys)) (λ ts us q r. (q.0, r.0 ∷ r.1, atpats_more q.1 r.2, λ s t. same_pat_tuple s t (more_pats q.2 r.3))) h.0 (many_rows_at y ys h.1)
+several_row : (x y : Pat) (ys : List Pat) → Each PatClaim (x ∷ y ∷ ys) → At (Row x (y ∷ ys)) (flat_map (put_pat 3) (x ∷ y ∷ ys))
+several_row x y ys h = both (Of pat_tree atpat x) (ManyRows y ys) (Row x (y ∷ ys)) (put_pat 3 x) (flat_map (put_pat 3) (y ∷ ys)) (λ ts us q r. (q.0, r.0 ∷ r.1, atpats_more q.1 r.2, λ s t. same_pat_tuple s t (more_pats q.2 r.3))) (alone_at x h.0) (many_rows_at y ys h.1)
 
 -- a clause, the last one or one before a bar
 abbrev ClauseOf : List ℕ → ℕ → Bool → Rule → List Token → Type 0
@@ -126,7 +128,7 @@ one_at : (name : List ℕ) (r : Rule) → ClauseClaim name 1 r → (last : Bool)
 one_at name r c last = subst (λ q. At (ClauseOf name 1 last q) (one_clause name last (clause_of (rule_ink q)))) c.is (go c.more c.count_is c.pats_claim)
   where
     go : (xs : List Pat) → suc (length xs) ≡ 1 → Each PatClaim (c.first ∷ xs) → At (ClauseOf name 1 last (rule_of (clause_pat c.span c.first xs) c.body)) (one_clause name last (clause_of (rule_ink (rule_of (clause_pat c.span c.first xs) c.body))))
-    go [] h g = subst (λ (i : RuleInk). At (ClauseOf name 1 last (rule_of c.first c.body)) (one_clause name last (clause_of i))) (sym (ink-rule c.first c.body)) (clause_at name last c.span c.first [] c.body (pat_forms c.first) (one_row c.first g.0) c.exp_claim)
+    go [] h g = subst (λ (i : RuleInk). At (ClauseOf name 1 last (rule_of c.first c.body)) (one_clause name last (clause_of i))) (sym (ink-rule c.first c.body)) (clause_at name last c.span c.first [] c.body (put_pat 3 c.first) (one_row c.first g.0) c.exp_claim)
     go (x ∷ xs) h g = absurd (omega (arith, h))
 
 several_at : (name : List ℕ) (n : ℕ) (r : Rule) → ClauseClaim name (suc (suc n)) r → (last : Bool) → At (ClauseOf name (suc (suc n)) last r) (several_clause name last (clause_of (rule_ink r)))
@@ -137,7 +139,7 @@ several_at name n r c last = subst (λ q. At (ClauseOf name (suc (suc n)) last q
     go (x ∷ xs) h g = subst (λ k. At (ClauseOf name k last (rule_of (clause_pat c.span c.first (x ∷ xs)) c.body)) (several_clause name last (clause_of (rule_ink (rule_of (clause_pat c.span c.first (x ∷ xs)) c.body))))) h
         (subst (λ (i : RuleInk). At (ClauseOf name (suc (length (x ∷ xs))) last (rule_of (clause_pat c.span c.first (x ∷ xs)) c.body)) (several_clause name last (clause_of i))) (sym (ink-rule (clause_pat c.span c.first (x ∷ xs)) c.body))
         (subst (λ P. At (ClauseOf name (suc (length (x ∷ xs))) last (rule_of (clause_pat c.span c.first (x ∷ xs)) c.body)) ((head_forms name ++ P) ++ f.Mark (codes "=") ∷ body_forms last (exp_part c.body))) (sym (ap patterns_in (form-Tuple c.span (c.first ∷ x ∷ xs))))
-        (clause_at name last c.span c.first (x ∷ xs) c.body (flat_map pat_forms (c.first ∷ x ∷ xs)) (several_row c.first x xs g) c.exp_claim)))
+        (clause_at name last c.span c.first (x ∷ xs) c.body (flat_map (put_pat 3) (c.first ∷ x ∷ xs)) (several_row c.first x xs g) c.exp_claim)))
 
 -- all clauses of a function
 clauses_by : (name : List ℕ) (count : ℕ) (g : Bool → Clause → Forms) → ((r : Rule) → ClauseClaim name count r → (last : Bool) → At (ClauseOf name count last r) (g last (clause_of (rule_ink r)))) → (r : Rule) (rs : List Rule) → Each (ClauseClaim name count) (r ∷ rs) → At (Many rules_tree (clauses name count) (r ∷ rs)) (alternatives g (map clause_of (map rule_ink (r ∷ rs))))

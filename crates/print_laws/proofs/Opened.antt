@@ -1,6 +1,6 @@
 -- What is printed of a tree, by the parts of its form.
 use Rattle.std.proofs.Common.{◌≡◌, ℕ, List, [], ◌∷◌, ◌++◌, refl, ap, ap₂, sym, ◌∙◌, map}
-use Rattle.std.specs.Prelude.{codes, cond, true, Option, Some, None}
+use Rattle.std.specs.Prelude.{codes, cond, Bool, true, false, Option, Some, None}
 use Rattle.sml_syntax.specs.declared.token.TokenForm.{TokenForm}
 use Rattle.sml_syntax.specs.declared.token.TokenForm.TheVariants as f
 use Rattle.sml_syntax.specs.declared.tree.Span.{Span}
@@ -26,41 +26,112 @@ use Rattle.sml_syntax.specs.declared.tree.DecForm.TheFolds.{fold-roll-Exp, fold-
 use Rattle.sml_syntax.specs.Layers.{ExpLayer, DecLayer, PatLayer, form_of_pat, form_of_exp, form_of_dec}
 use Rattle.sml_syntax.specs.NestedTypes.{TyLayer, form_of_ty}
 use Rattle.sml_syntax.specs.Nodes.{exp_at, pat_at, ty_at, dec_at}
-use Rattle.print_laws.specs.Printing.{Forms, Ink, RuleInk, Part, closed, atomic, whole, in_parens, parted, alternatives, starred, ty_layer, ty_forms, pat_layer, pat_forms, app_part, exp_layer, exp_ink, exp_part, exp_forms, piece_layer, piece_forms, rule_layer, rule_ink, rule_forms, match_forms, dec_layer, dec_forms, clause_of, inner_clauses, one_clause, several_clause, function_forms, bind_forms, is_number, type_name}
-use Rattle.print_laws.specs.Opened.{ty_text, starred_text, pat_text, put_text, app_text, app_level, level_in, opens_in, exp_text, piece_text, dec_text, rule_text, match_text, clause_in, clause_text, clauses_in, first_clauses, lone_in, operator_in, members_in, function_text, several_text}
+use Rattle.print_laws.specs.Printing.{Forms, Ink, RuleInk, Part, closed, atomic, whole, in_parens, parted, alternatives, starred, put, ty_layer, ty_part, ty_forms, put_ty, PatInk, is_cons, con_pat, pats_forms, pat_layer, pat_ink, pat_part, pat_forms, put_pat, head_forms, app_part, exp_layer, exp_ink, exp_part, exp_forms, piece_layer, piece_forms, rule_layer, rule_ink, rule_forms, match_forms, dec_layer, dec_forms, clause_of, inner_clauses, one_clause, several_clause, function_forms, bind_forms, is_number, type_name}
+use Rattle.print_laws.specs.Opened.{ty_text, ty_level, starred_text, pat_text, pat_level, pat_members, con_pat_text, con_pat_level, put_text, app_text, app_level, level_in, opens_in, exp_text, piece_text, dec_text, rule_text, match_text, clause_in, clause_text, clauses_in, first_clauses, lone_in, operator_in, members_in, function_text, several_text}
 use Rattle.print_laws.proofs.Lists.{parted_map, flat_map_map, parted_same, alternatives_map, alternatives_same}
 
 -- types
-starred_list : (ts : List Ty) → starred (map ty_forms ts) ≡ starred_text ts
+starred_list : (ts : List Ty) → starred (map ty_part ts) ≡ starred_text ts
 starred_list [] = refl
-starred_list (t ∷ ts) = ap (λ w. ty_forms t ++ w) (flat_map_map (λ t. f.Name (codes "*") ∷ t) ty_forms ts)
+starred_list (t ∷ ts) = ap (λ w. put_ty 2 t ++ w) (flat_map_map (λ (t : Part). f.Name (codes "*") ∷ put 2 t) ty_part ts)
 
-ty_layers : (l : TyLayer) (s : Span) → ty_forms (ty_at s (roll-TyForm l)) ≡ ty_text l
-ty_layers (TyForm-F.Var w) s = (fold-roll-Ty Forms Forms ty_layer (λ q. q.form) (record { span = s; form = roll-TyForm (TyForm-F.Var w) }) ∙ fold-roll-TyForm Forms Forms ty_layer (λ q. q.form) (TyForm-F.Var w))
-ty_layers (TyForm-F.Con w []) s = (fold-roll-Ty Forms Forms ty_layer (λ q. q.form) (record { span = s; form = roll-TyForm (TyForm-F.Con w []) }) ∙ fold-roll-TyForm Forms Forms ty_layer (λ q. q.form) (TyForm-F.Con w []))
-ty_layers (TyForm-F.Con w (t ∷ [])) s = (fold-roll-Ty Forms Forms ty_layer (λ q. q.form) (record { span = s; form = roll-TyForm (TyForm-F.Con w (t ∷ [])) }) ∙ fold-roll-TyForm Forms Forms ty_layer (λ q. q.form) (TyForm-F.Con w (t ∷ [])))
-ty_layers (TyForm-F.Con w (t ∷ u ∷ us)) s = (fold-roll-Ty Forms Forms ty_layer (λ q. q.form) (record { span = s; form = roll-TyForm (TyForm-F.Con w (t ∷ u ∷ us)) }) ∙ fold-roll-TyForm Forms Forms ty_layer (λ q. q.form) (TyForm-F.Con w (t ∷ u ∷ us))) ∙ ap (λ z. (f.Mark (codes "(") ∷ z) ++ f.Mark (codes ")") ∷ type_name w ∷ []) (parted_map (codes ",") (λ t. t) ty_forms (t ∷ u ∷ us))
-ty_layers (TyForm-F.Tuple ts) s = (fold-roll-Ty Forms Forms ty_layer (λ q. q.form) (record { span = s; form = roll-TyForm (TyForm-F.Tuple ts) }) ∙ fold-roll-TyForm Forms Forms ty_layer (λ q. q.form) (TyForm-F.Tuple ts)) ∙ ap in_parens (starred_list ts)
-ty_layers (TyForm-F.Arrow x y) s = (fold-roll-Ty Forms Forms ty_layer (λ q. q.form) (record { span = s; form = roll-TyForm (TyForm-F.Arrow x y) }) ∙ fold-roll-TyForm Forms Forms ty_layer (λ q. q.form) (TyForm-F.Arrow x y))
+-- a form with what is printed of its parts
+abbrev ty_inked : TyLayer → TyForm-F Part Part
+ty_inked (TyForm-F.Var w) = TyForm-F.Var w
+ty_inked (TyForm-F.Con w ts) = TyForm-F.Con w (map ty_part ts)
+ty_inked (TyForm-F.Tuple ts) = TyForm-F.Tuple (map ty_part ts)
+ty_inked (TyForm-F.Arrow x y) = TyForm-F.Arrow (ty_part x) (ty_part y)
+
+ty_layers : (l : TyLayer) (s : Span) → ty_part (ty_at s (roll-TyForm l)) ≡ ty_layer (ty_inked l)
+ty_layers (TyForm-F.Var w) s = fold-roll-Ty Part Part ty_layer (λ q. q.form) (record { span = s; form = roll-TyForm (TyForm-F.Var w) }) ∙ fold-roll-TyForm Part Part ty_layer (λ q. q.form) (TyForm-F.Var w)
+ty_layers l s = fold-roll-Ty Part Part ty_layer (λ q. q.form) (record { span = s; form = roll-TyForm l }) ∙ fold-roll-TyForm Part Part ty_layer (λ q. q.form) l
+
+-- the part of a type, by its form
+abbrev pub ty_part_in : TyLayer → Part
+ty_part_in l = closed (ty_level l) (ty_text l)
+
+ty_parts : (l : TyLayer) → ty_layer (ty_inked l) ≡ ty_part_in l
+ty_parts (TyForm-F.Var w) = refl
+ty_parts (TyForm-F.Con w []) = refl
+ty_parts (TyForm-F.Con w (t ∷ [])) = refl
+ty_parts (TyForm-F.Con w (t ∷ u ∷ us)) = ap (λ z. closed 2 ((f.Mark (codes "(") ∷ z) ++ f.Mark (codes ")") ∷ type_name w ∷ [])) (parted_map (codes ",") (λ (t : Part). t.forms) ty_part (t ∷ u ∷ us))
+ty_parts (TyForm-F.Tuple ts) = ap (closed 1) (starred_list ts)
+ty_parts (TyForm-F.Arrow x y) = refl
+
+pub ty_part_opened : (t : Ty) → ty_part t ≡ ty_part_in (form_of_ty t)
+ty_part_opened t =
+    ap ty_part (sym (roll-out-Ty t))
+    ∙ (ap (λ x. ty_part (ty_at (out-Ty t).span x)) (sym (roll-out-TyForm (out-Ty t).form))
+    ∙ (ty_layers (form_of_ty t) (out-Ty t).span ∙ ty_parts (form_of_ty t)))
+
+pub ty_level_opened : (t : Ty) → (ty_part t).level ≡ ty_level (form_of_ty t)
+ty_level_opened t = ap (λ (p : Part). p.level) (ty_part_opened t)
 
 pub ty_opened : (t : Ty) → ty_forms t ≡ ty_text (form_of_ty t)
-ty_opened t = ap ty_forms (sym (roll-out-Ty t)) ∙ (ap (λ x. ty_forms (ty_at (out-Ty t).span x)) (sym (roll-out-TyForm (out-Ty t).form)) ∙ ty_layers (form_of_ty t) (out-Ty t).span)
+ty_opened t = ap (λ (p : Part). p.forms) (ty_part_opened t)
 
 -- patterns
-pat_layers : (l : PatLayer) (s : Span) → pat_forms (pat_at s (roll-PatForm l)) ≡ pat_text l
-pat_layers PatForm-F.Any s = (fold-roll-Pat Forms Forms pat_layer (λ q. q.form) (record { span = s; form = roll-PatForm PatForm-F.Any }) ∙ fold-roll-PatForm Forms Forms pat_layer (λ q. q.form) PatForm-F.Any)
-pat_layers (PatForm-F.Int n) s = (fold-roll-Pat Forms Forms pat_layer (λ q. q.form) (record { span = s; form = roll-PatForm (PatForm-F.Int n) }) ∙ fold-roll-PatForm Forms Forms pat_layer (λ q. q.form) (PatForm-F.Int n))
-pat_layers (PatForm-F.Char n) s = (fold-roll-Pat Forms Forms pat_layer (λ q. q.form) (record { span = s; form = roll-PatForm (PatForm-F.Char n) }) ∙ fold-roll-PatForm Forms Forms pat_layer (λ q. q.form) (PatForm-F.Char n))
-pat_layers (PatForm-F.Str w) s = (fold-roll-Pat Forms Forms pat_layer (λ q. q.form) (record { span = s; form = roll-PatForm (PatForm-F.Str w) }) ∙ fold-roll-PatForm Forms Forms pat_layer (λ q. q.form) (PatForm-F.Str w))
-pat_layers PatForm-F.Unit s = (fold-roll-Pat Forms Forms pat_layer (λ q. q.form) (record { span = s; form = roll-PatForm PatForm-F.Unit }) ∙ fold-roll-PatForm Forms Forms pat_layer (λ q. q.form) PatForm-F.Unit)
-pat_layers (PatForm-F.Name w) s = (fold-roll-Pat Forms Forms pat_layer (λ q. q.form) (record { span = s; form = roll-PatForm (PatForm-F.Name w) }) ∙ fold-roll-PatForm Forms Forms pat_layer (λ q. q.form) (PatForm-F.Name w))
-pat_layers (PatForm-F.Tuple ps) s = (fold-roll-Pat Forms Forms pat_layer (λ q. q.form) (record { span = s; form = roll-PatForm (PatForm-F.Tuple ps) }) ∙ fold-roll-PatForm Forms Forms pat_layer (λ q. q.form) (PatForm-F.Tuple ps)) ∙ ap in_parens (parted_map (codes ",") (λ p. p) pat_forms ps)
-pat_layers (PatForm-F.List ps) s = (fold-roll-Pat Forms Forms pat_layer (λ q. q.form) (record { span = s; form = roll-PatForm (PatForm-F.List ps) }) ∙ fold-roll-PatForm Forms Forms pat_layer (λ q. q.form) (PatForm-F.List ps)) ∙ ap (λ z. (f.Mark (codes "[") ∷ z) ++ f.Mark (codes "]") ∷ []) (parted_map (codes ",") (λ p. p) pat_forms ps)
-pat_layers (PatForm-F.Con w x) s = (fold-roll-Pat Forms Forms pat_layer (λ q. q.form) (record { span = s; form = roll-PatForm (PatForm-F.Con w x) }) ∙ fold-roll-PatForm Forms Forms pat_layer (λ q. q.form) (PatForm-F.Con w x))
-pat_layers (PatForm-F.Typed x t) s = (fold-roll-Pat Forms Forms pat_layer (λ q. q.form) (record { span = s; form = roll-PatForm (PatForm-F.Typed x t) }) ∙ fold-roll-PatForm Forms Forms pat_layer (λ q. q.form) (PatForm-F.Typed x t))
+abbrev pat_inked : PatLayer → PatForm-F PatInk PatInk
+pat_inked PatForm-F.Any = PatForm-F.Any
+pat_inked (PatForm-F.Int n) = PatForm-F.Int n
+pat_inked (PatForm-F.Char n) = PatForm-F.Char n
+pat_inked (PatForm-F.Str w) = PatForm-F.Str w
+pat_inked PatForm-F.Unit = PatForm-F.Unit
+pat_inked (PatForm-F.Name w) = PatForm-F.Name w
+pat_inked (PatForm-F.Tuple ps) = PatForm-F.Tuple (map pat_ink ps)
+pat_inked (PatForm-F.List ps) = PatForm-F.List (map pat_ink ps)
+pat_inked (PatForm-F.Con w x) = PatForm-F.Con w (pat_ink x)
+pat_inked (PatForm-F.Typed x t) = PatForm-F.Typed (pat_ink x) t
+
+pat_layers : (l : PatLayer) (s : Span) → pat_ink (pat_at s (roll-PatForm l)) ≡ pat_layer (pat_inked l)
+pat_layers PatForm-F.Any s = fold-roll-Pat PatInk PatInk pat_layer (λ q. q.form) (record { span = s; form = roll-PatForm PatForm-F.Any }) ∙ fold-roll-PatForm PatInk PatInk pat_layer (λ q. q.form) PatForm-F.Any
+pat_layers l s = fold-roll-Pat PatInk PatInk pat_layer (λ q. q.form) (record { span = s; form = roll-PatForm l }) ∙ fold-roll-PatForm PatInk PatInk pat_layer (λ q. q.form) l
+
+pat_ink_opened : (q : Pat) → pat_ink q ≡ pat_layer (pat_inked (form_of_pat q))
+pat_ink_opened q = ap pat_ink (sym (roll-out-Pat q)) ∙ (ap (λ x. pat_ink (pat_at (out-Pat q).span x)) (sym (roll-out-PatForm (out-Pat q).form)) ∙ pat_layers (form_of_pat q) (out-Pat q).span)
+
+pat_parts_printed : (ps : List Pat) → map (λ (i : PatInk). i.part) (map pat_ink ps) ≡ map pat_part ps
+pat_parts_printed [] = refl
+pat_parts_printed (p ∷ ps) = ap (λ qs. pat_part p ∷ qs) (pat_parts_printed ps)
+
+pat_member_layers : (l : PatLayer) → (pat_layer (pat_inked l)).members ≡ map pat_part (pat_members l)
+pat_member_layers (PatForm-F.Tuple ps) = pat_parts_printed ps
+pat_member_layers _ = refl
+
+pub pat_members_opened : (q : Pat) → (pat_ink q).members ≡ map pat_part (pat_members (form_of_pat q))
+pat_members_opened q = ap (λ (i : PatInk). i.members) (pat_ink_opened q) ∙ pat_member_layers (form_of_pat q)
+
+-- the part of a pattern, by its form
+abbrev pub pat_part_in : PatLayer → Part
+pat_part_in l = closed (pat_level l) (pat_text l)
+
+cond_closed : (b : Bool) (m n : ℕ) (p q : Forms) → cond b (closed m p) (closed n q) ≡ closed (cond b m n) (cond b p q)
+cond_closed true m n p q = refl
+cond_closed false m n p q = refl
+
+con_pat_shown : (w : List ℕ) (ps : List Pat) (x : Pat) → con_pat w (map pat_part ps) (pat_part x) ≡ closed (con_pat_level w ps) (con_pat_text w ps x)
+con_pat_shown w [] x = refl
+con_pat_shown w (u ∷ []) x = refl
+con_pat_shown w (u ∷ v ∷ []) x = cond_closed (is_cons w) 1 2 (put_pat 2 u ++ f.Name (codes "::") ∷ put_pat 1 v) (head_forms w ++ put_pat 3 x)
+con_pat_shown w (u ∷ v ∷ y ∷ ys) x = refl
+
+pats_printed : (ps : List Pat) → pats_forms (map pat_ink ps) ≡ parted (codes ",") pat_forms ps
+pats_printed ps = parted_map (codes ",") (λ (p : PatInk). p.part.forms) pat_ink ps
+
+pat_parts : (l : PatLayer) → (pat_layer (pat_inked l)).part ≡ pat_part_in l
+pat_parts (PatForm-F.Tuple ps) = ap (λ z. closed 3 (in_parens z)) (pats_printed ps)
+pat_parts (PatForm-F.List ps) = ap (λ z. closed 3 ((f.Mark (codes "[") ∷ z) ++ f.Mark (codes "]") ∷ [])) (pats_printed ps)
+pat_parts (PatForm-F.Con w x) = ap (λ ps. con_pat w ps (pat_part x)) (pat_members_opened x) ∙ con_pat_shown w (pat_members (form_of_pat x)) x
+pat_parts _ = refl
+
+pub pat_part_opened : (q : Pat) → pat_part q ≡ pat_part_in (form_of_pat q)
+pat_part_opened q = ap (λ (i : PatInk). i.part) (pat_ink_opened q) ∙ pat_parts (form_of_pat q)
+
+pub pat_level_opened : (q : Pat) → (pat_part q).level ≡ pat_level (form_of_pat q)
+pat_level_opened q = ap (λ (p : Part). p.level) (pat_part_opened q)
 
 pub pat_opened : (q : Pat) → pat_forms q ≡ pat_text (form_of_pat q)
-pat_opened q = ap pat_forms (sym (roll-out-Pat q)) ∙ (ap (λ x. pat_forms (pat_at (out-Pat q).span x)) (sym (roll-out-PatForm (out-Pat q).form)) ∙ pat_layers (form_of_pat q) (out-Pat q).span)
+pat_opened q = ap (λ (p : Part). p.forms) (pat_part_opened q)
 
 -- rules
 pub rule_is : (r : Rule) → rule_ink r ≡ record { pat = (out-Rule r).pat; body = exp_ink (out-Rule r).body }

@@ -15,23 +15,43 @@ use Rattle.sml_syntax.specs.declared.tree.ExpForm.{ExpForm}
 use Rattle.sml_syntax.specs.declared.tree.DecForm.TheOpen.{DecForm-F, ExpForm-F, Piece-F}
 use Rattle.sml_syntax.specs.Layers.{ExpLayer, DecLayer, PatLayer, form_of_pat, form_of_exp}
 use Rattle.sml_syntax.specs.NestedTypes.{TyLayer}
-use Rattle.print_laws.specs.Printing.{Forms, in_parens, parted, alternatives, type_name, head_forms, name_forms, infix_of, is_lone, ty_forms, pat_forms, is_number, put, barred, body_forms, left_place, right_place, Clause, one_clause, several_clause, anti_forms, plain_forms, exp_part, exp_forms, exp_ink, piece_forms, dec_forms, abbrev_forms, data_forms, con_def_forms}
+use Rattle.print_laws.specs.Printing.{Forms, in_parens, parted, alternatives, type_name, head_forms, name_forms, infix_of, is_lone, ty_forms, put_ty, is_cons, pat_forms, put_pat, is_number, put, barred, body_forms, left_place, right_place, Clause, one_clause, several_clause, anti_forms, plain_forms, exp_part, exp_forms, exp_ink, piece_forms, dec_forms, abbrev_forms, data_forms, con_def_forms}
 
 -- types
 abbrev pub con_text : List ℕ → List Ty → Forms
 con_text name [] = type_name name ∷ []
-con_text name (t ∷ []) = ty_forms t ++ type_name name ∷ []
+con_text name (t ∷ []) = put_ty 2 t ++ type_name name ∷ []
 con_text name (t ∷ u ∷ us) = (f.Mark (codes "(") ∷ parted (codes ",") ty_forms (t ∷ u ∷ us)) ++ f.Mark (codes ")") ∷ type_name name ∷ []
 
 abbrev pub starred_text : List Ty → Forms
 starred_text [] = []
-starred_text (t ∷ ts) = ty_forms t ++ flat_map (λ t. f.Name (codes "*") ∷ ty_forms t) ts
+starred_text (t ∷ ts) = put_ty 2 t ++ flat_map (λ t. f.Name (codes "*") ∷ put_ty 2 t) ts
 
 abbrev pub ty_text : TyLayer → Forms
 ty_text (TyForm-F.Var name) = f.TyVar name ∷ []
 ty_text (TyForm-F.Con name arguments) = con_text name arguments
-ty_text (TyForm-F.Tuple ts) = in_parens (starred_text ts)
-ty_text (TyForm-F.Arrow from to) = in_parens (ty_forms from ++ f.Mark (codes "->") ∷ ty_forms to)
+ty_text (TyForm-F.Tuple ts) = starred_text ts
+ty_text (TyForm-F.Arrow from to) = put_ty 1 from ++ f.Mark (codes "->") ∷ ty_forms to
+
+-- the level of a type
+abbrev pub ty_level : TyLayer → ℕ
+ty_level (TyForm-F.Tuple ts) = 1
+ty_level (TyForm-F.Arrow from to) = 0
+ty_level _ = 2
+
+-- the patterns of a tuple
+abbrev pub pat_members : PatLayer → List Pat
+pat_members (PatForm-F.Tuple ps) = ps
+pat_members _ = []
+
+-- a constructor on its argument, by what its argument is
+abbrev pub con_pat_text : List ℕ → List Pat → Pat → Forms
+con_pat_text name (left ∷ right ∷ []) argument = cond (is_cons name) (put_pat 2 left ++ f.Name (codes "::") ∷ put_pat 1 right) (head_forms name ++ put_pat 3 argument)
+con_pat_text name _ argument = head_forms name ++ put_pat 3 argument
+
+abbrev pub con_pat_level : List ℕ → List Pat → ℕ
+con_pat_level name (left ∷ right ∷ []) = cond (is_cons name) 1 2
+con_pat_level name _ = 2
 
 -- patterns
 abbrev pub pat_text : PatLayer → Forms
@@ -43,8 +63,14 @@ pat_text PatForm-F.Unit = f.Mark (codes "(") ∷ f.Mark (codes ")") ∷ []
 pat_text (PatForm-F.Name name) = head_forms name
 pat_text (PatForm-F.Tuple ps) = in_parens (parted (codes ",") pat_forms ps)
 pat_text (PatForm-F.List ps) = (f.Mark (codes "[") ∷ parted (codes ",") pat_forms ps) ++ f.Mark (codes "]") ∷ []
-pat_text (PatForm-F.Con name p) = in_parens (head_forms name ++ pat_forms p)
-pat_text (PatForm-F.Typed p t) = in_parens (pat_forms p ++ f.Mark (codes ":") ∷ ty_forms t)
+pat_text (PatForm-F.Con name p) = con_pat_text name (pat_members (form_of_pat p)) p
+pat_text (PatForm-F.Typed p t) = put_pat 1 p ++ f.Mark (codes ":") ∷ ty_forms t
+
+-- the level of a pattern
+abbrev pub pat_level : PatLayer → ℕ
+pat_level (PatForm-F.Con name p) = con_pat_level name (pat_members (form_of_pat p))
+pat_level (PatForm-F.Typed p t) = 0
+pat_level _ = 3
 
 -- an expression where one of that level stands, where a bar follows, and as the body of a rule or a clause, the last one or not
 abbrev pub put_text : ℕ → Exp → Forms

@@ -1,5 +1,5 @@
--- The tokens of the text that a tree is printed as. Types and patterns are atomic, in parentheses where they aren't so by
--- themselves; an expression has parentheses around it only where the place that it stands in asks for a higher level than its own.
+-- The tokens of the text that a tree is printed as. A type, a pattern or an expression has parentheses around it only where the
+-- place that it stands in asks for a higher level than its own.
 -- A function of clauses is printed as clauses, also where its tree has the derived form of several patterns: such a tree begins
 -- with a pattern that is the name of a number, which no text can have.
 use Rattle.std.specs.Prelude.{ℕ, ◌==◌, ◌+◌, nat_lt, List, [], ◌∷◌, ◌++◌, Bool, true, false, Option, Some, None, cond, map, flat_map, codes, ◌||◌}
@@ -95,48 +95,106 @@ lacking_words = module_words ++ layered_words ++ abstype_words ++ fixity_words +
 unfoldable pub is_lone : List ℕ → Bool
 is_lone name = is_among reserved_words name || is_among lacking_words name
 
+-- Parts
+
+-- the tokens of a form without parentheses around it, their level, and whether a match is still open at their end
+pub record Part : Type 0 where
+  pub level : ℕ
+  pub opens : Bool
+  pub forms : Forms
+
+abbrev pub closed : ℕ → Forms → Part
+closed level forms = record { level = level; opens = false; forms = forms }
+
+-- where one of that level stands
+unfoldable pub put : ℕ → Part → Forms
+put level part = cond (nat_lt part.level level) (in_parens part.forms) part.forms
+
 -- Types
 
+-- their levels: 0 for an arrow, 1 for a tuple, and 2 for one that a name may stand behind
+
 -- a type constant behind its arguments
-abbrev pub con_forms : List ℕ → List Forms → Forms
+abbrev pub con_forms : List ℕ → List Part → Forms
 con_forms name [] = type_name name ∷ []
-con_forms name (t ∷ []) = t ++ type_name name ∷ []
-con_forms name (t ∷ u ∷ us) = (f.Mark (codes "(") ∷ parted (codes ",") (λ t. t) (t ∷ u ∷ us)) ++ f.Mark (codes ")") ∷ type_name name ∷ []
+con_forms name (t ∷ []) = put 2 t ++ type_name name ∷ []
+con_forms name (t ∷ u ∷ us) = (f.Mark (codes "(") ∷ parted (codes ",") (λ (t : Part). t.forms) (t ∷ u ∷ us)) ++ f.Mark (codes ")") ∷ type_name name ∷ []
 
 -- with stars between
-abbrev pub starred : List Forms → Forms
+abbrev pub starred : List Part → Forms
 starred [] = []
-starred (t ∷ ts) = t ++ flat_map (λ t. f.Name (codes "*") ∷ t) ts
+starred (t ∷ ts) = put 2 t ++ flat_map (λ (t : Part). f.Name (codes "*") ∷ put 2 t) ts
 
-abbrev pub ty_layer : TyForm-F Forms Forms → Forms
-ty_layer (TyForm-F.Var name) = f.TyVar name ∷ []
-ty_layer (TyForm-F.Con name arguments) = con_forms name arguments
-ty_layer (TyForm-F.Tuple ts) = in_parens (starred ts)
-ty_layer (TyForm-F.Arrow from to) = in_parens (from ++ f.Mark (codes "->") ∷ to)
+abbrev pub ty_layer : TyForm-F Part Part → Part
+ty_layer (TyForm-F.Var name) = closed 2 (f.TyVar name ∷ [])
+ty_layer (TyForm-F.Con name arguments) = closed 2 (con_forms name arguments)
+ty_layer (TyForm-F.Tuple ts) = closed 1 (starred ts)
+ty_layer (TyForm-F.Arrow from to) = closed 0 (put 1 from ++ f.Mark (codes "->") ∷ to.forms)
 
+abbrev pub ty_part : Ty → Part
+ty_part = fold-Ty Part Part ty_layer (λ t. t.form)
+
+-- without parentheses around it
 abbrev pub ty_forms : Ty → Forms
-ty_forms = fold-Ty Forms Forms ty_layer (λ t. t.form)
+ty_forms t = (ty_part t).forms
+
+abbrev pub put_ty : ℕ → Ty → Forms
+put_ty level t = put level (ty_part t)
 
 -- Patterns
 
-abbrev pub pat_layer : PatForm-F Forms Forms → Forms
-pat_layer PatForm-F.Any = f.Mark (codes "_") ∷ []
-pat_layer (PatForm-F.Int number) = f.Int number ∷ []
-pat_layer (PatForm-F.Char byte) = f.Char byte ∷ []
-pat_layer (PatForm-F.Str text) = f.Str text ∷ []
-pat_layer PatForm-F.Unit = f.Mark (codes "(") ∷ f.Mark (codes ")") ∷ []
-pat_layer (PatForm-F.Name name) = head_forms name
-pat_layer (PatForm-F.Tuple ps) = in_parens (parted (codes ",") (λ p. p) ps)
-pat_layer (PatForm-F.List ps) = (f.Mark (codes "[") ∷ parted (codes ",") (λ p. p) ps) ++ f.Mark (codes "]") ∷ []
-pat_layer (PatForm-F.Con name p) = in_parens (head_forms name ++ p)
-pat_layer (PatForm-F.Typed p t) = in_parens (p ++ f.Mark (codes ":") ∷ ty_forms t)
+-- their levels: 0 with a type, 1 for `::` between two, 2 for a constructor on its argument, and 3 for an atomic pattern
 
+-- what is printed of a pattern: its tokens, and the parts of the tuple that it is
+pub record PatInk : Type 0 where
+  pub part : Part
+  pub members : List Part
+
+abbrev pub pat_of : ℕ → Forms → PatInk
+pat_of level forms = record { part = closed level forms; members = [] }
+
+abbrev pub is_cons : List ℕ → Bool
+is_cons name = bytes_eq name (codes "::")
+
+abbrev pub applied_pat : List ℕ → Part → Part
+applied_pat name argument = closed 2 (head_forms name ++ put 3 argument)
+
+-- a constructor on its argument: `::` between the two of a tuple, any other one before it
+abbrev pub con_pat : List ℕ → List Part → Part → Part
+con_pat name (left ∷ right ∷ []) argument = cond (is_cons name) (closed 1 (put 2 left ++ f.Name (codes "::") ∷ put 1 right)) (applied_pat name argument)
+con_pat name _ argument = applied_pat name argument
+
+abbrev pub pats_forms : List PatInk → Forms
+pats_forms ps = parted (codes ",") (λ (p : PatInk). p.part.forms) ps
+
+abbrev pub pat_layer : PatForm-F PatInk PatInk → PatInk
+pat_layer PatForm-F.Any = pat_of 3 (f.Mark (codes "_") ∷ [])
+pat_layer (PatForm-F.Int number) = pat_of 3 (f.Int number ∷ [])
+pat_layer (PatForm-F.Char byte) = pat_of 3 (f.Char byte ∷ [])
+pat_layer (PatForm-F.Str text) = pat_of 3 (f.Str text ∷ [])
+pat_layer PatForm-F.Unit = pat_of 3 (f.Mark (codes "(") ∷ f.Mark (codes ")") ∷ [])
+pat_layer (PatForm-F.Name name) = pat_of 3 (head_forms name)
+pat_layer (PatForm-F.Tuple ps) = record { part = closed 3 (in_parens (pats_forms ps)); members = map (λ (p : PatInk). p.part) ps }
+pat_layer (PatForm-F.List ps) = pat_of 3 ((f.Mark (codes "[") ∷ pats_forms ps) ++ f.Mark (codes "]") ∷ [])
+pat_layer (PatForm-F.Con name p) = record { part = con_pat name p.members p.part; members = [] }
+pat_layer (PatForm-F.Typed p t) = pat_of 0 (put 1 p.part ++ f.Mark (codes ":") ∷ ty_forms t)
+
+abbrev pub pat_ink : Pat → PatInk
+pat_ink = fold-Pat PatInk PatInk pat_layer (λ p. p.form)
+
+abbrev pub pat_part : Pat → Part
+pat_part p = (pat_ink p).part
+
+-- without parentheses around it
 abbrev pub pat_forms : Pat → Forms
-pat_forms = fold-Pat Forms Forms pat_layer (λ p. p.form)
+pat_forms p = (pat_part p).forms
+
+abbrev pub put_pat : ℕ → Pat → Forms
+put_pat level p = put level (pat_part p)
 
 -- the patterns of a clause of several
 abbrev pub patterns_in : PatLayer → Forms
-patterns_in (PatForm-F.Tuple ps) = flat_map pat_forms ps
+patterns_in (PatForm-F.Tuple ps) = flat_map (put_pat 3) ps
 patterns_in _ = []
 
 -- the name of a number
@@ -150,16 +208,8 @@ is_number _ = false
 
 -- Expressions
 
--- the tokens of an expression without parentheses around it, whether a match is still open at their end, and their level:
--- 0 for `fn`, `case`, `if`, `raise` and `handle`, which stand only where any expression does, 1 for `orelse`, 2 for `andalso`, 3 with a type,
--- 4 and the level of an infix name, 14 for an application, and 15 for an atomic expression
-pub record Part : Type 0 where
-  pub level : ℕ
-  pub opens : Bool
-  pub forms : Forms
-
-abbrev pub closed : ℕ → Forms → Part
-closed level forms = record { level = level; opens = false; forms = forms }
+-- their levels: 0 for `fn`, `case`, `if`, `raise` and `handle`, which stand only where any expression does, 1 for `orelse`,
+-- 2 for `andalso`, 3 with a type, 4 and the level of an infix name, 14 for an application, and 15 for an atomic expression
 
 abbrev pub atomic : Forms → Part
 atomic forms = closed 15 forms
@@ -167,10 +217,6 @@ atomic forms = closed 15 forms
 -- a form that stands only where any expression does
 abbrev pub whole : Bool → Forms → Part
 whole opens forms = record { level = 0; opens = opens; forms = forms }
-
--- where an expression of that level stands
-unfoldable pub put : ℕ → Part → Forms
-put level part = cond (nat_lt part.level level) (in_parens part.forms) part.forms
 
 -- where a bar follows
 unfoldable pub barred : Part → Forms
@@ -270,7 +316,7 @@ exp_layer (ExpForm-F.Typed e t) = ink (closed 3 (put 3 e.part ++ f.Mark (codes "
 
 -- a clause of a function of that name: one pattern, or those of its tuple
 abbrev pub one_clause : List ℕ → Bool → Clause → Forms
-one_clause name last c = head_forms name ++ pat_forms c.pat ++ f.Mark (codes "=") ∷ body_forms last c.body
+one_clause name last c = head_forms name ++ put_pat 3 c.pat ++ f.Mark (codes "=") ∷ body_forms last c.body
 
 abbrev pub several_clause : List ℕ → Bool → Clause → Forms
 several_clause name last c = head_forms name ++ patterns_in (form_of_pat c.pat) ++ f.Mark (codes "=") ∷ body_forms last c.body
