@@ -44,14 +44,21 @@ abbrev pub pat_members : PatLayer → List Pat
 pat_members (PatForm-F.Tuple ps) = ps
 pat_members _ = []
 
+-- `::` on the two of a tuple, which stands between them
+abbrev pub is_between : List ℕ → List Pat → Bool
+is_between name (left ∷ right ∷ []) = is_cons name
+is_between name _ = false
+
+abbrev pub between_text : List Pat → Forms
+between_text (left ∷ right ∷ []) = put_pat 2 left ++ f.Name (codes "::") ∷ put_pat 1 right
+between_text _ = []
+
 -- a constructor on its argument, by what its argument is
 abbrev pub con_pat_text : List ℕ → List Pat → Pat → Forms
-con_pat_text name (left ∷ right ∷ []) argument = cond (is_cons name) (put_pat 2 left ++ f.Name (codes "::") ∷ put_pat 1 right) (head_forms name ++ put_pat 3 argument)
-con_pat_text name _ argument = head_forms name ++ put_pat 3 argument
+con_pat_text name members argument = cond (is_between name members) (between_text members) (head_forms name ++ put_pat 3 argument)
 
 abbrev pub con_pat_level : List ℕ → List Pat → ℕ
-con_pat_level name (left ∷ right ∷ []) = cond (is_cons name) 1 2
-con_pat_level name _ = 2
+con_pat_level name members = cond (is_between name members) 1 2
 
 -- patterns
 abbrev pub pat_text : PatLayer → Forms
