@@ -11,9 +11,9 @@ use Rattle.sml_syntax.specs.declared.tree.PatForm.{out-PatForm, out-roll-PatForm
 use Rattle.sml_syntax.specs.declared.tree.PatForm.TheVariants as p
 use Rattle.sml_syntax.specs.declared.tree.PatForm.TheOpen.{PatForm-F}
 use Rattle.sml_syntax.specs.Layers.{form_of_pat}
-use Rattle.print_laws.specs.Printing.{in_parens, parted, ty_forms, put_ty, pat_forms, put_pat}
-use Rattle.print_laws.specs.Opened.{ty_text, con_text, starred_text, pat_text, pat_members, con_pat_text}
-use Rattle.print_laws.proofs.Opened.{ty_opened, pat_opened}
+use Rattle.print_laws.specs.Printing.{in_parens, parted, ty_forms, put_ty, pat_part, pat_forms, put_pat}
+use Rattle.print_laws.specs.Opened.{ty_text, con_text, starred_text, pat_text, pat_members, pat_level, con_pat_text, con_pat_level}
+use Rattle.print_laws.proofs.Opened.{ty_opened, pat_opened, pat_level_opened}
 
 -- types
 pub ty_con : (x : Ty) (name : List ℕ) (ts : List Ty) → (out-Ty x).form ≡ t.Con name ts → ty_forms x ≡ con_text name ts
@@ -37,3 +37,6 @@ pat_con x name q h = pat_opened x ∙ ap pat_text (ap out-PatForm h ∙ ap out-P
 
 pub pat_typed : (x : Pat) (q : Pat) (ty : Ty) → (out-Pat x).form ≡ p.Typed q ty → pat_forms x ≡ put_pat 1 q ++ f.Mark (codes ":") ∷ ty_forms ty
 pat_typed x q ty h = pat_opened x ∙ ap pat_text (ap out-PatForm h ∙ ap out-PatForm (sym (p.rolls-Typed q ty)) ∙ out-roll-PatForm (PatForm-F.Typed q ty))
+
+pub level_con : (x : Pat) (name : List ℕ) (q : Pat) → (out-Pat x).form ≡ p.Con name q → (pat_part x).level ≡ con_pat_level name (pat_members (form_of_pat q))
+level_con x name q h = pat_level_opened x ∙ ap pat_level (ap out-PatForm h ∙ ap out-PatForm (sym (p.rolls-Con name q)) ∙ out-roll-PatForm (PatForm-F.Con name q))

@@ -3,7 +3,7 @@ ghost use Rattle.std.specs.Prelude.{◌≡◌, ◌++◌, OnOk, codes};
 ghost use Rattle.sml_syntax.specs.Layers.{form_of_pat};
 ghost use Rattle.print_laws.specs.Printing.{pat_part, pat_forms, parted, patterns_in};
 ghost use Rattle.print_laws.specs.Printing as printing;
-ghost use Rattle.print_laws.specs.Opened.{pat_members, con_pat_text, between_text};
+ghost use Rattle.print_laws.specs.Opened.{pat_members, con_pat_text, con_pat_level, between_text};
 ghost use Rattle.print_laws.specs.Opened as opened;
 
 use crate::forms::Forms;
@@ -45,15 +45,20 @@ pub(crate) fn print_pat(forms: &mut Forms, pat: &Pat) -> Result<(), NoMemory>
 
 /// 0 for a pattern with a type, 1 for `::` between two, 2 for a constructor on its argument, and 3 for an atomic pattern.
 #[tactic(auto, using(print_laws::proofs::Opened::pat_level_opened))]
-fn pattern_level(pat: &Pat) -> u8
+fn pattern_level(pat: &Pat) -> u64
     ensures { result ≡ (pat_part pat.now).level }
 {
     match &pat.form {
-        PatForm::Con(name, argument) if is_between(name, argument.get()) => 1,
-        PatForm::Con(_, _) => 2,
+        PatForm::Con(name, argument) => applied_level(name, argument.get()),
         PatForm::Typed(_, _) => 0,
         _ => 3,
     }
+}
+
+fn applied_level(name: &Text, argument: &Pat) -> u64
+    ensures { result ≡ con_pat_level name.now (pat_members (form_of_pat argument.now)) }
+{
+    if is_between(name, argument) { 1 } else { 2 }
 }
 
 /// Whether a constructor on its argument is `::` on the two of a tuple, between which it stands.
@@ -74,7 +79,7 @@ fn is_between(name: &Text, argument: &Pat) -> bool
 /// A pattern where one of a level stands, in parentheses where its own is lower.
 #[cycle(printed_patterns)]
 #[tactic(auto, unfolding(print_laws::specs::Printing::put))]
-pub(crate) fn put_pat(forms: &mut Forms, level: u8, pat: &Pat) -> Result<(), NoMemory>
+pub(crate) fn put_pat(forms: &mut Forms, level: u64, pat: &Pat) -> Result<(), NoMemory>
     ensures { OnOk result (forms.new ≡ forms.old ++ printing.put_pat level pat.now) }
 {
     if pattern_level(pat) < level {

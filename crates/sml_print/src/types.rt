@@ -28,7 +28,7 @@ pub(crate) fn print_ty(forms: &mut Forms, ty: &Ty) -> Result<(), NoMemory>
 
 /// 0 for an arrow, 1 for a tuple, and 2 for a type that a name may stand behind.
 #[tactic(auto, using(print_laws::proofs::Opened::ty_level_opened))]
-fn ty_level(ty: &Ty) -> u8
+fn ty_level(ty: &Ty) -> u64
     ensures { result ≡ (ty_part ty.now).level }
 {
     match &ty.form {
@@ -42,7 +42,7 @@ fn ty_level(ty: &Ty) -> u8
 /// A type where one of a level stands, in parentheses where its own is lower.
 #[cycle(printed_types)]
 #[tactic(auto, unfolding(print_laws::specs::Printing::put))]
-fn put_ty(forms: &mut Forms, level: u8, ty: &Ty) -> Result<(), NoMemory>
+fn put_ty(forms: &mut Forms, level: u64, ty: &Ty) -> Result<(), NoMemory>
     ensures { OnOk result (forms.new ≡ forms.old ++ printing.put_ty level ty.now) }
 {
     if ty_level(ty) < level {
