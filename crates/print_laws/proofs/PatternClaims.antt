@@ -1,7 +1,6 @@
 -- What is printed of a pattern is a pattern of its level again.
 use Rattle.std.proofs.Common.{◌≡◌, ℕ, ℤ, ◌≤◌, List, [], ◌∷◌, ◌++◌, refl, sym, subst, map, arith}
 use Rattle.std.specs.Prelude.{codes, cond, nat_lt, Bool, true, false}
-use Rattle.std.specs.Str.{bytes_eq}
 use Rattle.std.proofs.lemmas.Slice.Eq.{bytes_eq-Decides}
 use Rattle.std.proofs.lemmas.Bool.{ltb-false}
 use Rattle.sml_syntax.specs.declared.token.Token.{Token}
@@ -14,7 +13,7 @@ use Rattle.sml_syntax.specs.Programs.{Each}
 use Rattle.sml_syntax.specs.Nodes.{pat_at, cons_pat, span_of, extent, last_of}
 use Rattle.sml_syntax.specs.Grammar.{Is, pat_tree, pats_tree, ty_tree, ty, atpat, apat, cpat, pat, pats, atpats, atpat_any, atpat_int, atpat_char, atpat_str, atpat_name, atpat_unit, atpat_paren, atpat_tuple, atpat_no_list, atpat_list, pats_one, pats_more, apat_one, apat_con, cpat_one, cpat_cons, pat_one, pat_typed}
 use Rattle.print_laws.specs.SameTree.{Same, same_any, same_pat_int, same_pat_char, same_pat_str, same_pat_unit, same_pat_name, same_pat_tuple, same_pat_list, same_pat_con, same_pat_typed, no_pats, more_pats}
-use Rattle.print_laws.specs.Printing.{Part, PatInk, closed, in_parens, put, parted, head_forms, ty_forms, is_cons, applied_pat, con_pat, pats_forms, pat_ink, pat_part, pat_forms, put_pat}
+use Rattle.print_laws.specs.Printing.{Part, PatInk, closed, in_parens, put, head_forms, ty_forms, is_cons, applied_pat, con_pat, pats_forms, pat_ink, pat_part, pat_forms, put_pat}
 use Rattle.print_laws.proofs.Lists.{parted_map}
 use Rattle.print_laws.proofs.Bearing.{At, one, both, bin, wrap}
 use Rattle.print_laws.proofs.Made.{pat-Any, pat-Int, pat-Char, pat-Str, pat-Unit, pat-Name, pat-Tuple, pat-List, pat-Con, pat-Typed}
