@@ -33,12 +33,12 @@ const TEXTS: [(&str, &str); 12] = [
         "fun A.f 1 ( x , y ) = x | A.f x z = ( y : t ) and op o z = z \n",
     ),
     (
-        "val x :: A.y (z : int) = a",
-        "val ( op :: ( x , ( A.y ( z : int ) ) ) ) = a \n",
+        "val (x :: w) :: A.y (z : int) :: (v : int list) = a",
+        "val ( x :: w ) :: A.y ( z : int ) :: ( v : int list ) = a \n",
     ),
     (
-        "type ('a, 'b) t = ('a, 'b * 'a) u list -> 'a v",
-        "type ( 'a , 'b ) t = ( ( 'a , ( 'b * 'a ) ) u list -> 'a v ) \n",
+        "type ('a, 'b) t = ('a, 'b * 'a) u list * ('a * 'b) -> ('a -> 'b) v",
+        "type ( 'a , 'b ) t = ( 'a , 'b * 'a ) u list * ( 'a * 'b ) -> ( 'a -> 'b ) v \n",
     ),
     (
         "let fun f x = x in f; f end",

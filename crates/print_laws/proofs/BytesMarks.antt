@@ -13,6 +13,10 @@ pub star : (ends : Bool) → Stands ends (f.Name (codes "*"))
 unfolding class mark_class symbol_kind spelling gap
 star ends = record { blank = refl; reads = λ n. refl }
 
+pub cons : (ends : Bool) → Stands ends (f.Name (codes "::"))
+unfolding class mark_class symbol_kind spelling gap
+cons ends = record { blank = refl; reads = λ n. refl }
+
 pub open_paren : (ends : Bool) → Stands ends (f.Mark (codes "("))
 unfolding class mark_class symbol_kind spelling gap
 open_paren ends = record { blank = refl; reads = λ n. refl }

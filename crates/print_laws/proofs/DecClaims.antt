@@ -1,6 +1,6 @@
 -- What is printed of a declaration of values is one again; quotations and `let`.
 use Rattle.std.proofs.Common.{◌≡◌, ℕ, List, [], ◌∷◌, ◌++◌, refl, sym, subst, map, append_assoc}
-use Rattle.std.specs.Prelude.{codes, flat_map, Bool, true}
+use Rattle.std.specs.Prelude.{codes, flat_map, Bool, true, false}
 use Rattle.sml_syntax.specs.declared.token.Token.{Token}
 use Rattle.sml_syntax.specs.declared.token.TokenForm.TheVariants as f
 use Rattle.sml_syntax.specs.declared.tree.Span.{Span}
@@ -13,15 +13,15 @@ use Rattle.sml_syntax.specs.declared.tree.Dec.{Dec}
 use Rattle.sml_syntax.specs.declared.tree.DecForm.TheVariants as d
 use Rattle.sml_syntax.specs.Programs.{Each}
 use Rattle.sml_syntax.specs.Nodes.{exp_at, dec_at, span_of, extent}
-use Rattle.sml_syntax.specs.Grammar.{Is, exp_tree, exps_tree, pat_tree, text_tree, pieces_tree, dec_tree, decs_tree, binds_tree, atpat, atx, exps, antiquoted, quoted, text_part, dec, decs, binds, atx_quote, atx_let, quoted_last, quoted_more, no_text, some_text, decs_none, decs_more, dec_val, dec_local, binds_one, binds_more}
+use Rattle.sml_syntax.specs.Grammar.{Is, exp_tree, exps_tree, pat_tree, text_tree, pieces_tree, dec_tree, decs_tree, binds_tree, pat, exps, antiquoted, quoted, text_part, dec, decs, binds, atx_quote, atx_let, quoted_last, quoted_more, no_text, some_text, decs_none, decs_more, dec_val, dec_local, binds_one, binds_more}
 use Rattle.print_laws.specs.SameTree.{same_quote, same_let, plain_piece, anti_piece, no_pieces, no_decs, more_decs, same_val, same_local, no_binds, more_binds}
-use Rattle.print_laws.specs.Printing.{Ink, parted, pat_forms, exp_forms, exp_ink, piece_forms, plain_forms, dec_forms, bind_forms}
+use Rattle.print_laws.specs.Printing.{parted, pat_forms, exps_forms, exp_forms, exp_ink, piece_forms, plain_forms, dec_forms, bind_forms}
 use Rattle.print_laws.proofs.Lists.{parted_map, flat_map_map}
 use Rattle.print_laws.proofs.Bearing.{At, Split, none, one, word, both, bin, wrap, tri}
 use Rattle.print_laws.proofs.Made.{ink-Quote, ink-Let, piece-Plain, piece-Anti, dec-Val, dec-Local}
-use Rattle.print_laws.proofs.Claims.{Of, Many, PatClaim, ExpClaim, mark, nil_end, parted_at, row_at, each_map}
-use Rattle.print_laws.proofs.PatternClaims.{whole_pat}
-use Rattle.print_laws.proofs.ExpClaims.{whole_exp, solid, exps_at, Behind, behind_at}
+use Rattle.print_laws.proofs.Claims.{Of, Many, LevelOf, PatClaim, ExpClaim, mark, nil_end, parted_at, row_at, each_map}
+use Rattle.print_laws.proofs.PatternClaims.{whole_pat_at}
+use Rattle.print_laws.proofs.ExpClaims.{by_atx, solid, WholeOf, exps_at, Behind, behind_at}
 
 -- quotations
 abbrev pub QuotedAt : List Piece → Type 0
@@ -50,9 +50,10 @@ more_quoted w x ps a c =
 
 pub quote_claim : (s : Span) (ps : List Piece) → QuotedAt ps → ExpClaim (exp_at s (e.Quote ps))
 quote_claim s ps c = solid (exp_at s (e.Quote ps)) _ (ink-Quote s ps) refl
-    (wrap (Of pieces_tree quoted ps) (Of exp_tree atx (exp_at s (e.Quote ps))) f.QuoteFrom (flat_map (λ p. p) (map piece_forms ps)) f.QuoteTo
-    (λ v ts w h g q. (exp_at (span_of v.span.from w.span.to) (e.Quote q.0), atx_quote v w h q.1 g, same_quote s (span_of v.span.from w.span.to) q.2))
+    (wrap (Of pieces_tree quoted ps) (LevelOf 15 false (exp_at s (e.Quote ps))) f.QuoteFrom (flat_map (λ p. p) (map piece_forms ps)) f.QuoteTo
+    (λ v ts w h g q. (exp_at (span_of v.span.from w.span.to) (e.Quote q.0), by_atx (atx_quote v w h q.1 g), same_quote s (span_of v.span.from w.span.to) q.2))
     (subst (At (Of pieces_tree quoted ps)) (sym (flat_map_map (λ p. p) piece_forms ps)) c))
+    tt tt
 
 -- declarations
 abbrev pub DecClaim : Bool → Dec → Type 0
@@ -66,13 +67,14 @@ decs_at ds h = subst (At (Of decs_tree decs ds)) (sym (flat_map_map (λ d. d) de
 pub let_claim : (s : Span) (ds : List Dec) (x : Exp) (xs : List Exp) → Each (DecClaim true) ds → Each ExpClaim (x ∷ xs) → ExpClaim (exp_at s (e.Let ds (x ∷ xs)))
 let_claim s ds x xs h g = solid (exp_at s (e.Let ds (x ∷ xs))) _ (ink-Let s ds (x ∷ xs)) refl
     (tri (Behind (codes "let") (Of decs_tree decs ds)) (Many exps_tree (exps (codes ";")) (x ∷ xs)) (λ ts. ts ≡ []) S
-    (f.Mark (codes "let") ∷ flat_map (λ d. d) (map dec_forms ds)) (f.Mark (codes "in")) (parted (codes ";") (λ (i : Ink). i.forms) (map exp_ink (x ∷ xs))) (f.Mark (codes "end")) []
+    (f.Mark (codes "let") ∷ flat_map (λ d. d) (map dec_forms ds)) (f.Mark (codes "in")) (exps_forms (codes ";") (map exp_ink (x ∷ xs))) (f.Mark (codes "end")) []
     (λ ts v us w ws k l q r n. subst (λ z. S ((ts ++ v ∷ us) ++ w ∷ z)) (sym n) (subst (λ z. S ((z ++ v ∷ us) ++ w ∷ [])) (sym q.2)
-    (exp_at (span_of q.0.span.from w.span.to) (e.Let q.4.0 (r.0 ∷ r.1)), atx_let q.0 v w (mark q.3) q.4.1 (mark k) r.2 (mark l), same_let s (span_of q.0.span.from w.span.to) q.4.2 r.3)))
+    (exp_at (span_of q.0.span.from w.span.to) (e.Let q.4.0 (r.0 ∷ r.1)), by_atx (atx_let q.0 v w (mark q.3) q.4.1 (mark k) r.2 (mark l)), same_let s (span_of q.0.span.from w.span.to) q.4.2 r.3)))
     (behind_at (codes "let") (Of decs_tree decs ds) (flat_map (λ d. d) (map dec_forms ds)) (decs_at ds h)) (exps_at (codes ";") x xs g) (none (λ ts. ts ≡ []) refl))
+    tt tt
   where
     S : List Token → Type 0
-    S = Of exp_tree atx (exp_at s (e.Let ds (x ∷ xs)))
+    S = LevelOf 15 false (exp_at s (e.Let ds (x ∷ xs)))
 
 pub local_claim : (i : Bool) (s : Span) (ds es : List Dec) → Each (DecClaim true) ds → Each (DecClaim true) es → DecClaim i (dec_at s (d.Local ds es))
 local_claim i s ds es h g = subst (At S) (sym (dec-Local s ds es))
@@ -90,15 +92,15 @@ abbrev pub BindClaim : Pat × Exp → Type 0
 BindClaim b = PatClaim b.0 × ExpClaim b.1
 
 abbrev BindOf : Pat × Exp → List Token → Type 0
-BindOf b = Split (Of pat_tree atpat b.0) (f.Mark (codes "=")) (Of exp_tree atx b.1)
+BindOf b = Split (Of pat_tree pat b.0) (f.Mark (codes "=")) (WholeOf b.1)
 
 bind_at : (b : Pat × Exp) → BindClaim b → At (BindOf b) (bind_forms (b.0, exp_ink b.1))
-bind_at b c = bin (Of pat_tree atpat b.0) (Of exp_tree atx b.1) (BindOf b) (pat_forms b.0) (f.Mark (codes "=")) (exp_forms b.1) (λ ts w us k q r. (ts, w, us, refl, k, q, r)) c.0 c.1.0
+bind_at b c = bin (Of pat_tree pat b.0) (WholeOf b.1) (BindOf b) (pat_forms b.0) (f.Mark (codes "=")) (exp_forms b.1) (λ ts w us k q r. (ts, w, us, refl, k, q, r)) (whole_pat_at b.0 c.0) c.1.0
 
 binds_at : (b : Pat × Exp) (bs : List (Pat × Exp)) → Each BindClaim (b ∷ bs) → At (Many binds_tree binds (b ∷ bs)) (parted (codes "and") (λ (b : Pat × Exp). bind_forms (b.0, exp_ink b.1)) (b ∷ bs))
 binds_at b bs h = parted_at (λ (b : Pat × Exp). bind_forms (b.0, exp_ink b.1)) (codes "and") BindOf (Many binds_tree binds)
-    (λ y ts q. subst (Many binds_tree binds (y ∷ [])) (sym q.3) ((q.5.0, q.6.0), [], binds_one q.1 (whole_pat q.5.1) (mark q.4) (whole_exp q.6.1), more_binds q.5.2 q.6.2 no_binds))
-    (λ y z zs ts w us k q r. subst (λ n. Many binds_tree binds (y ∷ z ∷ zs) (n ++ w ∷ us)) (sym q.3) ((q.5.0, q.6.0), r.0 ∷ r.1, binds_more q.1 w (whole_pat q.5.1) (mark q.4) (whole_exp q.6.1) (mark k) r.2, more_binds q.5.2 q.6.2 r.3))
+    (λ y ts q. subst (Many binds_tree binds (y ∷ [])) (sym q.3) ((q.5.0, q.6.0), [], binds_one q.1 q.5.1 (mark q.4) q.6.1.anywhere, more_binds q.5.2 q.6.2 no_binds))
+    (λ y z zs ts w us k q r. subst (λ n. Many binds_tree binds (y ∷ z ∷ zs) (n ++ w ∷ us)) (sym q.3) ((q.5.0, q.6.0), r.0 ∷ r.1, binds_more q.1 w q.5.1 (mark q.4) q.6.1.anywhere (mark k) r.2, more_binds q.5.2 q.6.2 r.3))
     b bs (each_map BindClaim (λ b. At (BindOf b) (bind_forms (b.0, exp_ink b.1))) bind_at (b ∷ bs) h)
 
 pub val_claim : (i : Bool) (s : Span) (b : Pat × Exp) (bs : List (Pat × Exp)) → Each BindClaim (b ∷ bs) → DecClaim i (dec_at s (d.Val (b ∷ bs)))

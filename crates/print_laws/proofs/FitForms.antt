@@ -11,7 +11,7 @@ use Rattle.sml_syntax.specs.Grammar.{IsTypeName, short, long}
 use Rattle.sml_syntax.specs.Spelling.{class, names, word_kind}
 use Rattle.print_laws.specs.Spelled.{spelling, gap}
 use Rattle.print_laws.specs.Bytes.{Shape, Outside, Quoted, Inside, ends_at, parens_after, Stands, Fits, fits_outside, fits_inside}
-use Rattle.print_laws.specs.Printing.{Forms, in_parens, behind_mark, parted, with_op, head_forms, name_forms, unless_infix, type_name}
+use Rattle.print_laws.specs.Printing.{Forms, in_parens, behind_mark, parted, alternatives_from, alternatives, has_dot, with_op, head_forms, name_forms, infix_word, infix_by, infix_of, unless_infix, type_name}
 use Rattle.print_laws.specs.Spelt.{SpeltName, SpeltWord, SpeltLong, IsSpelt}
 use Rattle.print_laws.proofs.BytesMarks as marks
 
@@ -66,6 +66,14 @@ pub between : {A : Type 0} (m : List ℕ) (g : A → Forms) (xs : List A) → St
 between m g [] k h = none
 between m g (x ∷ xs) k h = join (g x) (behind_mark m g xs) h.0 (behind m g xs k h.1)
 
+from_choices : {A : Type 0} (g : Bool → A → Forms) (x : A) (xs : List A) → Steady (f.Mark (codes "|")) → Each (λ (z : A). (last : Bool) → Goes (g last z)) (x ∷ xs) → Goes (alternatives_from g x xs)
+from_choices g x [] k h = h.0 true
+from_choices g x (y ∷ ys) k h = join (g false x) (f.Mark (codes "|") ∷ alternatives_from g y ys) (h.0 false) (then (f.Mark (codes "|")) (alternatives_from g y ys) k (from_choices g y ys k h.1))
+
+pub choices : {A : Type 0} (g : Bool → A → Forms) (xs : List A) → Steady (f.Mark (codes "|")) → Each (λ (z : A). (last : Bool) → Goes (g last z)) xs → Goes (alternatives g xs)
+choices g [] k h = none
+choices g (x ∷ xs) k h = from_choices g x xs k h
+
 pub row : {A : Type 0} (g : A → Forms) (xs : List A) → Each (λ (x : A). Goes (g x)) xs → Goes (flat_map g xs)
 row g [] h = none
 row g (x ∷ xs) h = join (g x) (flat_map g xs) h.0 (row g xs h.1)
@@ -107,6 +115,9 @@ equals = record { stands = marks.equals; keeps = λ n. refl }
 
 pub star : Steady (f.Name (codes "*"))
 star = record { stands = marks.star; keeps = λ n. refl }
+
+pub cons : Steady (f.Name (codes "::"))
+cons = record { stands = marks.cons; keeps = λ n. refl }
 
 pub word_op : Steady (f.Mark (codes "op"))
 word_op = record { stands = marks.word_op; keeps = λ n. refl }
@@ -185,6 +196,36 @@ headed name k = subst (λ b. Goes (cond b (f.Long name ∷ []) (with_op (infix_l
     go : (o : Option ℕ) → Goes (with_op o (f.Name name))
     go None = one (f.Name name) (named name k)
     go (Some level) = then (f.Mark (codes "op")) (f.Name name ∷ []) word_op (one (f.Name name) (named name k))
+
+-- the word of an infix name
+abbrev pub OperatorGoes : Option (ℕ × TokenForm) → Type 0
+OperatorGoes None = Unit {0}
+OperatorGoes (Some o) = Steady o.1
+
+operated_by : (name : List ℕ) → Steady (infix_word name) → OperatorGoes (infix_of name)
+unfolding infix_of
+operated_by name k = go (has_dot name) (infix_level name)
+  where
+    go : (b : Bool) (o : Option ℕ) → OperatorGoes (cond b None (infix_by o name))
+    go true o = tt
+    go false None = tt
+    go false (Some level) = k
+
+pub operated : (name : List ℕ) → SpeltName name → OperatorGoes (infix_of name)
+unfolding infix_word
+operated name k = operated_by name (go (bytes_eq name (codes "=")))
+  where
+    go : (b : Bool) → Steady (cond b (f.Mark (codes "=")) (f.Name name))
+    go true = equals
+    go false = named name k
+
+pub long_operated : (name : List ℕ) → SpeltLong name → OperatorGoes (infix_of name)
+unfolding infix_of
+long_operated name k = subst (λ b. OperatorGoes (cond b None (infix_by (infix_level name) name))) (sym k.dotted) tt
+
+pub equals_operated : OperatorGoes (infix_of (codes "="))
+unfolding infix_word
+equals_operated = operated_by (codes "=") equals
 
 pub long_headed : (name : List ℕ) → SpeltLong name → Goes (head_forms name)
 unfolding head_forms

@@ -26,7 +26,7 @@ use Rattle.print_laws.specs.Spelt.{SpeltWord, SpeltLong, IsSpelt, Starts, Follow
 use Rattle.print_laws.proofs.Made.{form-Any, form-Int, form-Char, form-Str, form-Unit, form-Name, form-Tuple, form-List, form-Con, form-Typed, ink-rule}
 use Rattle.print_laws.proofs.Claims.{each_map}
 use Rattle.print_laws.proofs.Nested.{nil_front, nil_back}
-use Rattle.print_laws.proofs.FitForms.{Goes, Steady, none, one, row, named, headed, long_headed, expressed, op_equals, typed_name}
+use Rattle.print_laws.proofs.FitForms.{Goes, Steady, none, one, row, named, headed, long_headed, operated, long_operated, equals_operated, expressed, op_equals, typed_name}
 use Rattle.print_laws.proofs.FitClaims.{TyGoes, var_goes, con_goes, ty_tuple_goes, arrow_goes, PatGoes, any_goes, pat_int_goes, pat_char_goes, pat_str_goes, pat_unit_goes, pat_name_goes, pat_tuple_goes, pat_list_goes, pat_con_goes, pat_typed_goes, ExpGoes, int_goes, char_goes, str_goes, name_goes, unit_goes, tuple_goes, seq_goes, list_goes, app_goes, infix_goes, both_goes, either_goes, typed_goes, raise_goes, if_goes, RuleGoes, rule_goes, fn_goes, case_goes, handle_goes, DecGoes, let_goes, local_goes, BindGoes, val_goes, it_goes, VarsGo, abbrev_goes, con_def_goes, of_goes, data_goes, abbrevs_go, datas_go, exns_go, NotNumber, ClauseGoes, FunGoes, clause_read, fun_goes, rec_goes, funs_go, Spelt, TextGoes, AntiGoes, PiecesGo, no_text_goes, text_goes, anti_goes, anti_name_goes, last_goes, more_goes, quote_goes}
 
 -- parts of lists
@@ -133,15 +133,15 @@ head_read name w (short _ _ i) h k = head_any name w i.is h k
 head_read name w (long _ _ i) h k = let s : SpeltLong name = subst IsSpelt i.is k in (long_headed name s, h name (inr i.is))
 
 exp_any : (s : Span) (name : List ℕ) (w : Token) → w.form ≡ f.Name name → IsSpelt w.form → ExpGoes (exp_at s (e.Name name))
-exp_any s name w i k = let c : SpeltWord name = subst IsSpelt i k in name_goes s name c.not_lone (expressed name (headed name c.spelt))
+exp_any s name w i k = let c : SpeltWord name = subst IsSpelt i k in name_goes s name c.not_lone (operated name c.spelt) (expressed name (headed name c.spelt))
 
 exp_named : (s : Span) (name : List ℕ) (w : Token) → IsTypeName name w → IsSpelt w.form → ExpGoes (exp_at s (e.Name name))
 exp_named s name w (short _ _ i) k = exp_any s name w i.is k
-exp_named s name w (long _ _ i) k = let c : SpeltLong name = subst IsSpelt i.is k in name_goes s name c.not_lone (expressed name (long_headed name c))
+exp_named s name w (long _ _ i) k = let c : SpeltLong name = subst IsSpelt i.is k in name_goes s name c.not_lone (long_operated name c) (expressed name (long_headed name c))
 
 exp_equals : (s : Span) → ExpGoes (exp_at s (e.Name (codes "=")))
 unfolding is_lone
-exp_equals s = name_goes s (codes "=") refl op_equals
+exp_equals s = name_goes s (codes "=") refl equals_operated op_equals
 
 exp_infix : {level : ℕ} (s : Span) (name : List ℕ) (w : Token) → IsInfix level name w → IsSpelt w.form → ExpGoes (exp_at s (e.Name name))
 exp_infix s name w (by_name _ _ _ i) k = exp_any s name w i.is k

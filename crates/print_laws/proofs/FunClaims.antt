@@ -15,14 +15,15 @@ use Rattle.sml_syntax.specs.declared.tree.DecForm.TheVariants as d
 use Rattle.sml_syntax.specs.Programs.{Each}
 use Rattle.sml_syntax.specs.Layers.{form_of_pat}
 use Rattle.sml_syntax.specs.Nodes.{exp_at, pat_at, dec_at, rule_of, extent, clause_pat, numbers, nested, curried, function_rules, number_rule}
-use Rattle.sml_syntax.specs.Grammar.{Is, exp_tree, exps_tree, rule_tree, rules_tree, recs_tree, pat_tree, pats_tree, dec_tree, atpat, atpats, atx, clause, clauses, funs, dec, atpats_none, atpats_more, clause_plain, clauses_last, clauses_more, funs_one, funs_more, dec_fun}
+use Rattle.sml_syntax.specs.Grammar.{Is, exp_tree, exps_tree, rule_tree, rules_tree, recs_tree, pat_tree, pats_tree, dec_tree, atpat, atpats, clause, clauses, funs, dec, atpats_none, atpats_more, clause_plain, clauses_last, clauses_more, funs_one, funs_more, dec_fun}
 use Rattle.print_laws.specs.SameTree.{Same, same_name, same_tuple, same_fn, same_case, no_exps, more_exps, same_rule, no_rules, more_rules, same_pat_name, same_pat_tuple, no_pats, more_pats, no_recs, more_recs, same_rec}
-use Rattle.print_laws.specs.Printing.{Forms, Ink, RuleInk, Clause, parted, head_forms, pat_forms, exp_forms, exp_ink, rule_ink, clause_of, one_clause, several_clause, patterns_in, is_number, begins_number, inner_clauses, function_forms}
-use Rattle.print_laws.proofs.Lists.{parted_map}
+use Rattle.print_laws.specs.Printing.{Forms, Ink, RuleInk, Clause, parted, alternatives, head_forms, put_pat, body_forms, exp_part, exp_ink, rule_ink, clause_of, one_clause, several_clause, patterns_in, is_number, begins_number, inner_clauses, function_forms}
+use Rattle.print_laws.proofs.Lists.{parted_map, alternatives_map}
 use Rattle.print_laws.proofs.Bearing.{At, word, both, bin}
 use Rattle.print_laws.proofs.Made.{ink-Fn, ink-Case, ink-rule, form-Tuple, form-Name, dec-ValRec}
-use Rattle.print_laws.proofs.Claims.{Of, Many, PatClaim, ExpClaim, IsHead, head_at, mark, parted_at, row_at, each_map}
-use Rattle.print_laws.proofs.ExpClaims.{whole_exp}
+use Rattle.print_laws.proofs.Claims.{Of, Many, PatClaim, ExpClaim, IsHead, head_at, mark, parted_at, alternatives_at, row_at, each_map}
+use Rattle.print_laws.proofs.PatternClaims.{alone_at}
+use Rattle.print_laws.proofs.ExpClaims.{Ends, BodyOf, body_at}
 use Rattle.print_laws.proofs.DecClaims.{DecClaim}
 
 -- the derived form of several patterns is the same at each span
@@ -93,58 +94,61 @@ Rows xs ts = (ys : List Pat) × Is (atpats (length xs)) ts (pats_tree ys) [] × 
 abbrev ManyRows : Pat → List Pat → List Token → Type 0
 ManyRows x xs ts = (y : Pat) × (ys : List Pat) × Is (atpats (suc (length xs))) ts (pats_tree (y ∷ ys)) [] × Same (pats_tree (x ∷ xs)) (pats_tree (y ∷ ys))
 
-rows_at : (xs : List Pat) → Each PatClaim xs → At (Rows xs) (flat_map pat_forms xs)
-rows_at xs h = row_at pat_forms (Of pat_tree atpat) Rows ([], atpats_none, no_pats) (λ x xs ts us q r. (q.0 ∷ r.0, atpats_more q.1 r.1, more_pats q.2 r.2)) xs h
+rows_at : (xs : List Pat) → Each PatClaim xs → At (Rows xs) (flat_map (put_pat 3) xs)
+rows_at xs h = row_at (put_pat 3) (Of pat_tree atpat) Rows ([], atpats_none, no_pats) (λ x xs ts us q r. (q.0 ∷ r.0, atpats_more q.1 r.1, more_pats q.2 r.2))
+    xs (each_map PatClaim (λ x. At (Of pat_tree atpat x) (put_pat 3 x)) alone_at xs h)
 
-many_rows_at : (x : Pat) (xs : List Pat) → Each PatClaim (x ∷ xs) → At (ManyRows x xs) (flat_map pat_forms (x ∷ xs))
-many_rows_at x xs h = both (Of pat_tree atpat x) (Rows xs) (ManyRows x xs) (pat_forms x) (flat_map pat_forms xs) (λ ts us q r. (q.0, r.0, atpats_more q.1 r.1, more_pats q.2 r.2)) h.0 (rows_at xs h.1)
+many_rows_at : (x : Pat) (xs : List Pat) → Each PatClaim (x ∷ xs) → At (ManyRows x xs) (flat_map (put_pat 3) (x ∷ xs))
+many_rows_at x xs h = both (Of pat_tree atpat x) (Rows xs) (ManyRows x xs) (put_pat 3 x) (flat_map (put_pat 3) xs) (λ ts us q r. (q.0, r.0, atpats_more q.1 r.1, more_pats q.2 r.2)) (alone_at x h.0) (rows_at xs h.1)
 
-one_row : (x : Pat) → PatClaim x → At (Row x []) (pat_forms x)
-one_row x h = λ ts b. let q = h ts b in (q.0, [], subst (λ z. Is (atpats 1) z (pats_tree (q.0 ∷ [])) []) (append-nil ts) (atpats_more q.1 atpats_none), λ s r. q.2)
+one_row : (x : Pat) → PatClaim x → At (Row x []) (put_pat 3 x)
+one_row x h = λ ts b. let q = alone_at x h ts b in (q.0, [], subst (λ z. Is (atpats 1) z (pats_tree (q.0 ∷ [])) []) (append-nil ts) (atpats_more q.1 atpats_none), λ s r. q.2)
 
-several_row : (x y : Pat) (ys : List Pat) → Each PatClaim (x ∷ y ∷ ys) → At (Row x (y ∷ ys)) (flat_map pat_forms (x ∷ y ∷ ys))
-several_row x y ys h = both (Of pat_tree atpat x) (ManyRows y ys) (Row x (y ∷ ys)) (pat_forms x) (flat_map pat_forms (y ∷ ys)) (λ ts us q r. (q.0, r.0 ∷ r.1, atpats_more q.1 r.2, λ s t. same_pat_tuple s t (more_pats q.2 r.3))) h.0 (many_rows_at y ys h.1)
+several_row : (x y : Pat) (ys : List Pat) → Each PatClaim (x ∷ y ∷ ys) → At (Row x (y ∷ ys)) (flat_map (put_pat 3) (x ∷ y ∷ ys))
+several_row x y ys h = both (Of pat_tree atpat x) (ManyRows y ys) (Row x (y ∷ ys)) (put_pat 3 x) (flat_map (put_pat 3) (y ∷ ys)) (λ ts us q r. (q.0, r.0 ∷ r.1, atpats_more q.1 r.2, λ s t. same_pat_tuple s t (more_pats q.2 r.3))) (alone_at x h.0) (many_rows_at y ys h.1)
 
-clause_at : (name : List ℕ) (s : Span) (x : Pat) (xs : List Pat) (b : Exp) (P : Forms) → At (Row x xs) P → ExpClaim b → At (Of rule_tree (clause name (suc (length xs)) false) (rule_of (clause_pat s x xs) b)) ((head_forms name ++ P) ++ f.Mark (codes "=") ∷ exp_forms b)
-clause_at name s x xs b P row c = bin Left (Of exp_tree atx b) S (head_forms name ++ P) (f.Mark (codes "=")) (exp_forms b)
+-- a clause, the last one or one before a bar
+abbrev ClauseOf : List ℕ → ℕ → Bool → Rule → List Token → Type 0
+ClauseOf name count last r ts = (o : Bool) × Ends last o × Of rule_tree (clause name count o) r ts
+
+clause_at : (name : List ℕ) (last : Bool) (s : Span) (x : Pat) (xs : List Pat) (b : Exp) (P : Forms) → At (Row x xs) P → ExpClaim b → At (ClauseOf name (suc (length xs)) last (rule_of (clause_pat s x xs) b)) ((head_forms name ++ P) ++ f.Mark (codes "=") ∷ body_forms last (exp_part b))
+clause_at name last s x xs b P row c = bin Left (BodyOf last b) S (head_forms name ++ P) (f.Mark (codes "=")) (body_forms last (exp_part b))
     (λ ts w us k q r. subst (λ z. S (z ++ w ∷ us)) (sym q.2)
-    (rule_of (clause_pat (extent ((q.0 ++ q.1) ++ w ∷ us)) q.4.0 q.4.1) r.0, clause_plain w q.3.1 q.4.2 (mark k) (whole_exp r.1), same_rule (q.4.3 s (extent ((q.0 ++ q.1) ++ w ∷ us))) r.2))
-    (both (IsHead name) (Row x xs) Left (head_forms name) P (λ ts us q r. (ts, us, refl, q, r)) (head_at name) row) c.0
+    (r.0, r.1, (rule_of (clause_pat (extent ((q.0 ++ q.1) ++ w ∷ us)) q.4.0 q.4.1) r.2.0, clause_plain w q.3.1 q.4.2 (mark k) r.2.1, same_rule (q.4.3 s (extent ((q.0 ++ q.1) ++ w ∷ us))) r.2.2)))
+    (both (IsHead name) (Row x xs) Left (head_forms name) P (λ ts us q r. (ts, us, refl, q, r)) (head_at name) row) (body_at last b (exp_part b) c.0)
   where
     Left : List Token → Type 0
     Left us = (ts : List Token) × (vs : List Token) × (us ≡ ts ++ vs) × IsHead name ts × Row x xs vs
 
     S : List Token → Type 0
-    S = Of rule_tree (clause name (suc (length xs)) false) (rule_of (clause_pat s x xs) b)
+    S = ClauseOf name (suc (length xs)) last (rule_of (clause_pat s x xs) b)
 
 -- a clause of one pattern, and one of several
-abbrev ClauseOf : List ℕ → ℕ → Rule → List Token → Type 0
-ClauseOf name count = Of rule_tree (clause name count false)
-
-one_at : (name : List ℕ) (r : Rule) → ClauseClaim name 1 r → At (ClauseOf name 1 r) (one_clause name (clause_of (rule_ink r)))
-one_at name r c = subst (λ q. At (ClauseOf name 1 q) (one_clause name (clause_of (rule_ink q)))) c.is (go c.more c.count_is c.pats_claim)
+one_at : (name : List ℕ) (r : Rule) → ClauseClaim name 1 r → (last : Bool) → At (ClauseOf name 1 last r) (one_clause name last (clause_of (rule_ink r)))
+one_at name r c last = subst (λ q. At (ClauseOf name 1 last q) (one_clause name last (clause_of (rule_ink q)))) c.is (go c.more c.count_is c.pats_claim)
   where
-    go : (xs : List Pat) → suc (length xs) ≡ 1 → Each PatClaim (c.first ∷ xs) → At (ClauseOf name 1 (rule_of (clause_pat c.span c.first xs) c.body)) (one_clause name (clause_of (rule_ink (rule_of (clause_pat c.span c.first xs) c.body))))
-    go [] h g = subst (λ (i : RuleInk). At (ClauseOf name 1 (rule_of c.first c.body)) (one_clause name (clause_of i))) (sym (ink-rule c.first c.body)) (clause_at name c.span c.first [] c.body (pat_forms c.first) (one_row c.first g.0) c.exp_claim)
+    go : (xs : List Pat) → suc (length xs) ≡ 1 → Each PatClaim (c.first ∷ xs) → At (ClauseOf name 1 last (rule_of (clause_pat c.span c.first xs) c.body)) (one_clause name last (clause_of (rule_ink (rule_of (clause_pat c.span c.first xs) c.body))))
+    go [] h g = subst (λ (i : RuleInk). At (ClauseOf name 1 last (rule_of c.first c.body)) (one_clause name last (clause_of i))) (sym (ink-rule c.first c.body)) (clause_at name last c.span c.first [] c.body (put_pat 3 c.first) (one_row c.first g.0) c.exp_claim)
     go (x ∷ xs) h g = absurd (omega (arith, h))
 
-several_at : (name : List ℕ) (n : ℕ) (r : Rule) → ClauseClaim name (suc (suc n)) r → At (ClauseOf name (suc (suc n)) r) (several_clause name (clause_of (rule_ink r)))
-several_at name n r c = subst (λ q. At (ClauseOf name (suc (suc n)) q) (several_clause name (clause_of (rule_ink q)))) c.is (go c.more c.count_is c.pats_claim)
+several_at : (name : List ℕ) (n : ℕ) (r : Rule) → ClauseClaim name (suc (suc n)) r → (last : Bool) → At (ClauseOf name (suc (suc n)) last r) (several_clause name last (clause_of (rule_ink r)))
+several_at name n r c last = subst (λ q. At (ClauseOf name (suc (suc n)) last q) (several_clause name last (clause_of (rule_ink q)))) c.is (go c.more c.count_is c.pats_claim)
   where
-    go : (xs : List Pat) → suc (length xs) ≡ suc (suc n) → Each PatClaim (c.first ∷ xs) → At (ClauseOf name (suc (suc n)) (rule_of (clause_pat c.span c.first xs) c.body)) (several_clause name (clause_of (rule_ink (rule_of (clause_pat c.span c.first xs) c.body))))
+    go : (xs : List Pat) → suc (length xs) ≡ suc (suc n) → Each PatClaim (c.first ∷ xs) → At (ClauseOf name (suc (suc n)) last (rule_of (clause_pat c.span c.first xs) c.body)) (several_clause name last (clause_of (rule_ink (rule_of (clause_pat c.span c.first xs) c.body))))
     go [] h g = absurd (omega (arith, h))
-    go (x ∷ xs) h g = subst (λ k. At (ClauseOf name k (rule_of (clause_pat c.span c.first (x ∷ xs)) c.body)) (several_clause name (clause_of (rule_ink (rule_of (clause_pat c.span c.first (x ∷ xs)) c.body))))) h
-        (subst (λ (i : RuleInk). At (ClauseOf name (suc (length (x ∷ xs))) (rule_of (clause_pat c.span c.first (x ∷ xs)) c.body)) (several_clause name (clause_of i))) (sym (ink-rule (clause_pat c.span c.first (x ∷ xs)) c.body))
-        (subst (λ P. At (ClauseOf name (suc (length (x ∷ xs))) (rule_of (clause_pat c.span c.first (x ∷ xs)) c.body)) ((head_forms name ++ P) ++ f.Mark (codes "=") ∷ exp_forms c.body)) (sym (ap patterns_in (form-Tuple c.span (c.first ∷ x ∷ xs))))
-        (clause_at name c.span c.first (x ∷ xs) c.body (flat_map pat_forms (c.first ∷ x ∷ xs)) (several_row c.first x xs g) c.exp_claim)))
+    go (x ∷ xs) h g = subst (λ k. At (ClauseOf name k last (rule_of (clause_pat c.span c.first (x ∷ xs)) c.body)) (several_clause name last (clause_of (rule_ink (rule_of (clause_pat c.span c.first (x ∷ xs)) c.body))))) h
+        (subst (λ (i : RuleInk). At (ClauseOf name (suc (length (x ∷ xs))) last (rule_of (clause_pat c.span c.first (x ∷ xs)) c.body)) (several_clause name last (clause_of i))) (sym (ink-rule (clause_pat c.span c.first (x ∷ xs)) c.body))
+        (subst (λ P. At (ClauseOf name (suc (length (x ∷ xs))) last (rule_of (clause_pat c.span c.first (x ∷ xs)) c.body)) ((head_forms name ++ P) ++ f.Mark (codes "=") ∷ body_forms last (exp_part c.body))) (sym (ap patterns_in (form-Tuple c.span (c.first ∷ x ∷ xs))))
+        (clause_at name last c.span c.first (x ∷ xs) c.body (flat_map (put_pat 3) (c.first ∷ x ∷ xs)) (several_row c.first x xs g) c.exp_claim)))
 
 -- all clauses of a function
-clauses_by : (name : List ℕ) (count : ℕ) (g : Clause → Forms) → ((r : Rule) → ClauseClaim name count r → At (ClauseOf name count r) (g (clause_of (rule_ink r)))) → (r : Rule) (rs : List Rule) → Each (ClauseClaim name count) (r ∷ rs) → At (Many rules_tree (clauses name count) (r ∷ rs)) (parted (codes "|") g (map clause_of (map rule_ink (r ∷ rs))))
+clauses_by : (name : List ℕ) (count : ℕ) (g : Bool → Clause → Forms) → ((r : Rule) → ClauseClaim name count r → (last : Bool) → At (ClauseOf name count last r) (g last (clause_of (rule_ink r)))) → (r : Rule) (rs : List Rule) → Each (ClauseClaim name count) (r ∷ rs) → At (Many rules_tree (clauses name count) (r ∷ rs)) (alternatives g (map clause_of (map rule_ink (r ∷ rs))))
 clauses_by name count g k r rs h =
-    subst (At (Many rules_tree (clauses name count) (r ∷ rs))) (sym (parted_map (codes "|") g clause_of (map rule_ink (r ∷ rs)) ∙ parted_map (codes "|") (λ i. g (clause_of i)) rule_ink (r ∷ rs)))
-    (parted_at (λ q. g (clause_of (rule_ink q))) (codes "|") (ClauseOf name count) (Many rules_tree (clauses name count))
-    (λ y ts q. (q.0, [], clauses_last q.1, more_rules q.2 no_rules))
-    (λ y z zs ts w us e q t. (q.0, t.0 ∷ t.1, clauses_more w q.1 (mark e) t.2, more_rules q.2 t.3)) r rs (each_map (ClauseClaim name count) (λ q. At (ClauseOf name count q) (g (clause_of (rule_ink q)))) k (r ∷ rs) h))
+    subst (At (Many rules_tree (clauses name count) (r ∷ rs))) (sym (alternatives_map g clause_of (map rule_ink (r ∷ rs)) ∙ alternatives_map (λ last i. g last (clause_of i)) rule_ink (r ∷ rs)))
+    (alternatives_at (λ last q. g last (clause_of (rule_ink q))) (ClauseOf name count) (Many rules_tree (clauses name count))
+    (λ y ts q. (q.2.0, [], clauses_last q.2.1, more_rules q.2.2 no_rules))
+    (λ y z zs ts w us e q t. (q.2.0, t.0 ∷ t.1, clauses_more w (subst (λ o. Is (clause name count o) ts (rule_tree q.2.0) []) (q.1 refl) q.2.1) (mark e) t.2, more_rules q.2.2 t.3))
+    r rs (each_map (ClauseClaim name count) (λ q. (last : Bool) → At (ClauseOf name count last q) (g last (clause_of (rule_ink q)))) k (r ∷ rs) h))
 
 -- a function: some clauses whose rules are the same
 abbrev FunOf : List ℕ × List Rule → List Token → Type 0
@@ -165,8 +169,8 @@ fun_at name s zero r rs h g = absurd (none_of g.0)
     none_of : ClauseClaim name 0 r → ⊥
     none_of c = omega (arith, c.count_is)
 fun_at name s (suc zero) r rs h g =
-    subst (At (FunOf (name, r ∷ rs))) (sym (ap (λ b. cond b (parted (codes "|") (several_clause name) (inner_clauses (map rule_ink (r ∷ rs)))) (parted (codes "|") (λ q. one_clause name (clause_of q)) (map rule_ink (r ∷ rs)))) h))
-    (subst (At (FunOf (name, r ∷ rs))) (parted_map (codes "|") (one_clause name) clause_of (map rule_ink (r ∷ rs)))
+    subst (At (FunOf (name, r ∷ rs))) (sym (ap (λ b. cond b (alternatives (several_clause name) (inner_clauses (map rule_ink (r ∷ rs)))) (alternatives (λ last q. one_clause name last (clause_of q)) (map rule_ink (r ∷ rs)))) h))
+    (subst (At (FunOf (name, r ∷ rs))) (alternatives_map (one_clause name) clause_of (map rule_ink (r ∷ rs)))
     (λ ts b. let q = clauses_by name 1 (one_clause name) (one_at name) r rs g ts b in (1, q.0, q.1, q.2, q.3)))
 fun_at name s (suc (suc n)) r rs h g =
     subst (λ b. At (FunOf (name, cond b (curried s (suc (suc n)) (r ∷ rs) ∷ []) (r ∷ rs))) (function_forms (name, map rule_ink (cond b (curried s (suc (suc n)) (r ∷ rs) ∷ []) (r ∷ rs))))) (sym more)
@@ -177,9 +181,9 @@ fun_at name s (suc (suc n)) r rs h g =
     more : nat_lt 1 (suc (suc n)) ≡ true
     more = lt-ltb 1 (suc (suc n)) (omega arith)
 
-    shown : function_forms (name, map rule_ink (curried s (suc (suc n)) (r ∷ rs) ∷ [])) ≡ parted (codes "|") (several_clause name) (map clause_of (map rule_ink (r ∷ rs)))
-    shown = ap (λ b. cond b (parted (codes "|") (several_clause name) (rule_ink (curried s (suc (suc n)) (r ∷ rs))).body.clauses) (parted (codes "|") (λ q. one_clause name (clause_of q)) (rule_ink (curried s (suc (suc n)) (r ∷ rs)) ∷ []))) (curried_number s (suc (suc n)) (r ∷ rs))
-        ∙ ap (parted (codes "|") (several_clause name)) (curried_ink s (suc (suc n)) (r ∷ rs))
+    shown : function_forms (name, map rule_ink (curried s (suc (suc n)) (r ∷ rs) ∷ [])) ≡ alternatives (several_clause name) (map clause_of (map rule_ink (r ∷ rs)))
+    shown = ap (λ b. cond b (alternatives (several_clause name) (rule_ink (curried s (suc (suc n)) (r ∷ rs))).body.clauses) (alternatives (λ last q. one_clause name last (clause_of q)) (rule_ink (curried s (suc (suc n)) (r ∷ rs)) ∷ []))) (curried_number s (suc (suc n)) (r ∷ rs))
+        ∙ ap (alternatives (several_clause name)) (curried_ink s (suc (suc n)) (r ∷ rs))
 
 fun_claim_at : (fun : List ℕ × List Rule) → FunClaim fun → At (FunOf fun) (function_forms (fun.0, map rule_ink fun.1))
 fun_claim_at fun c = subst (λ (g : List ℕ × List Rule). At (FunOf g) (function_forms (g.0, map rule_ink g.1))) c.is (fun_at fun.0 c.span c.count c.rule c.rules c.plain c.clause_claims)

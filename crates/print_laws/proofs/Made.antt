@@ -25,7 +25,7 @@ use Rattle.sml_syntax.specs.declared.tree.DecForm.TheOpen.{DecForm-F, ExpForm-F,
 use Rattle.sml_syntax.specs.declared.tree.DecForm.TheFolds.{fold-roll-Exp, fold-roll-ExpForm, fold-roll-Rule, fold-roll-Piece, fold-roll-Dec, fold-roll-DecForm}
 use Rattle.sml_syntax.specs.Layers.{form_of_pat}
 use Rattle.sml_syntax.specs.Nodes.{exp_at, pat_at, ty_at, dec_at, rule_of}
-use Rattle.print_laws.specs.Printing.{Forms, Ink, RuleInk, ty_layer, ty_forms, pat_layer, pat_forms, exp_layer, exp_ink, piece_layer, piece_forms, rule_layer, rule_ink, dec_layer, dec_forms}
+use Rattle.print_laws.specs.Printing.{Forms, Part, PatInk, Ink, RuleInk, ty_layer, ty_part, pat_layer, pat_ink, exp_layer, exp_ink, piece_layer, piece_forms, rule_layer, rule_ink, dec_layer, dec_forms}
 
 pub ink-Int : (s : Span) (n : ℤ) → exp_ink (exp_at s (e.Int n)) ≡ exp_layer (ExpForm-F.Int n)
 ink-Int s n = ap (λ x. exp_ink (exp_at s x)) (sym (e.rolls-Int n)) ∙ (fold-roll-Exp Forms Ink Forms Forms Ink RuleInk dec_layer exp_layer piece_layer (λ d. d.form) (λ e. e.form) rule_layer (record { span = s; form = roll-ExpForm (ExpForm-F.Int n) }) ∙ fold-roll-ExpForm Forms Ink Forms Forms Ink RuleInk dec_layer exp_layer piece_layer (λ d. d.form) (λ e. e.form) rule_layer (ExpForm-F.Int n))
@@ -84,77 +84,77 @@ ink-Quote s ps = ap (λ x. exp_ink (exp_at s x)) (sym (e.rolls-Quote ps)) ∙ (f
 pub ink-Typed : (s : Span) (x : Exp) (t : Ty) → exp_ink (exp_at s (e.Typed x t)) ≡ exp_layer (ExpForm-F.Typed (exp_ink x) t)
 ink-Typed s x t = ap (λ x. exp_ink (exp_at s x)) (sym (e.rolls-Typed x t)) ∙ (fold-roll-Exp Forms Ink Forms Forms Ink RuleInk dec_layer exp_layer piece_layer (λ d. d.form) (λ e. e.form) rule_layer (record { span = s; form = roll-ExpForm (ExpForm-F.Typed x t) }) ∙ fold-roll-ExpForm Forms Ink Forms Forms Ink RuleInk dec_layer exp_layer piece_layer (λ d. d.form) (λ e. e.form) rule_layer (ExpForm-F.Typed x t))
 
-pub pat-Any : (s : Span) → pat_forms (pat_at s p.Any) ≡ pat_layer PatForm-F.Any
-pat-Any s = ap (λ x. pat_forms (pat_at s x)) (sym p.rolls-Any) ∙ (fold-roll-Pat Forms Forms pat_layer (λ q. q.form) (record { span = s; form = roll-PatForm PatForm-F.Any }) ∙ fold-roll-PatForm Forms Forms pat_layer (λ q. q.form) PatForm-F.Any)
+pub pat-Any : (s : Span) → pat_ink (pat_at s p.Any) ≡ pat_layer PatForm-F.Any
+pat-Any s = ap (λ x. pat_ink (pat_at s x)) (sym p.rolls-Any) ∙ (fold-roll-Pat PatInk PatInk pat_layer (λ q. q.form) (record { span = s; form = roll-PatForm PatForm-F.Any }) ∙ fold-roll-PatForm PatInk PatInk pat_layer (λ q. q.form) PatForm-F.Any)
 
 pub form-Any : (s : Span) → form_of_pat (pat_at s p.Any) ≡ PatForm-F.Any
 form-Any s = ap (λ r. out-PatForm r.form) (out-roll-Pat (record { span = s; form = p.Any })) ∙ (ap out-PatForm (sym p.rolls-Any) ∙ out-roll-PatForm PatForm-F.Any)
 
-pub pat-Int : (s : Span) (n : ℤ) → pat_forms (pat_at s (p.Int n)) ≡ pat_layer (PatForm-F.Int n)
-pat-Int s n = ap (λ x. pat_forms (pat_at s x)) (sym (p.rolls-Int n)) ∙ (fold-roll-Pat Forms Forms pat_layer (λ q. q.form) (record { span = s; form = roll-PatForm (PatForm-F.Int n) }) ∙ fold-roll-PatForm Forms Forms pat_layer (λ q. q.form) (PatForm-F.Int n))
+pub pat-Int : (s : Span) (n : ℤ) → pat_ink (pat_at s (p.Int n)) ≡ pat_layer (PatForm-F.Int n)
+pat-Int s n = ap (λ x. pat_ink (pat_at s x)) (sym (p.rolls-Int n)) ∙ (fold-roll-Pat PatInk PatInk pat_layer (λ q. q.form) (record { span = s; form = roll-PatForm (PatForm-F.Int n) }) ∙ fold-roll-PatForm PatInk PatInk pat_layer (λ q. q.form) (PatForm-F.Int n))
 
 pub form-Int : (s : Span) (n : ℤ) → form_of_pat (pat_at s (p.Int n)) ≡ (PatForm-F.Int n)
 form-Int s n = ap (λ r. out-PatForm r.form) (out-roll-Pat (record { span = s; form = (p.Int n) })) ∙ (ap out-PatForm (sym (p.rolls-Int n)) ∙ out-roll-PatForm (PatForm-F.Int n))
 
-pub pat-Char : (s : Span) (b : ℕ) → pat_forms (pat_at s (p.Char b)) ≡ pat_layer (PatForm-F.Char b)
-pat-Char s b = ap (λ x. pat_forms (pat_at s x)) (sym (p.rolls-Char b)) ∙ (fold-roll-Pat Forms Forms pat_layer (λ q. q.form) (record { span = s; form = roll-PatForm (PatForm-F.Char b) }) ∙ fold-roll-PatForm Forms Forms pat_layer (λ q. q.form) (PatForm-F.Char b))
+pub pat-Char : (s : Span) (b : ℕ) → pat_ink (pat_at s (p.Char b)) ≡ pat_layer (PatForm-F.Char b)
+pat-Char s b = ap (λ x. pat_ink (pat_at s x)) (sym (p.rolls-Char b)) ∙ (fold-roll-Pat PatInk PatInk pat_layer (λ q. q.form) (record { span = s; form = roll-PatForm (PatForm-F.Char b) }) ∙ fold-roll-PatForm PatInk PatInk pat_layer (λ q. q.form) (PatForm-F.Char b))
 
 pub form-Char : (s : Span) (b : ℕ) → form_of_pat (pat_at s (p.Char b)) ≡ (PatForm-F.Char b)
 form-Char s b = ap (λ r. out-PatForm r.form) (out-roll-Pat (record { span = s; form = (p.Char b) })) ∙ (ap out-PatForm (sym (p.rolls-Char b)) ∙ out-roll-PatForm (PatForm-F.Char b))
 
-pub pat-Str : (s : Span) (w : List ℕ) → pat_forms (pat_at s (p.Str w)) ≡ pat_layer (PatForm-F.Str w)
-pat-Str s w = ap (λ x. pat_forms (pat_at s x)) (sym (p.rolls-Str w)) ∙ (fold-roll-Pat Forms Forms pat_layer (λ q. q.form) (record { span = s; form = roll-PatForm (PatForm-F.Str w) }) ∙ fold-roll-PatForm Forms Forms pat_layer (λ q. q.form) (PatForm-F.Str w))
+pub pat-Str : (s : Span) (w : List ℕ) → pat_ink (pat_at s (p.Str w)) ≡ pat_layer (PatForm-F.Str w)
+pat-Str s w = ap (λ x. pat_ink (pat_at s x)) (sym (p.rolls-Str w)) ∙ (fold-roll-Pat PatInk PatInk pat_layer (λ q. q.form) (record { span = s; form = roll-PatForm (PatForm-F.Str w) }) ∙ fold-roll-PatForm PatInk PatInk pat_layer (λ q. q.form) (PatForm-F.Str w))
 
 pub form-Str : (s : Span) (w : List ℕ) → form_of_pat (pat_at s (p.Str w)) ≡ (PatForm-F.Str w)
 form-Str s w = ap (λ r. out-PatForm r.form) (out-roll-Pat (record { span = s; form = (p.Str w) })) ∙ (ap out-PatForm (sym (p.rolls-Str w)) ∙ out-roll-PatForm (PatForm-F.Str w))
 
-pub pat-Unit : (s : Span) → pat_forms (pat_at s p.Unit) ≡ pat_layer PatForm-F.Unit
-pat-Unit s = ap (λ x. pat_forms (pat_at s x)) (sym p.rolls-Unit) ∙ (fold-roll-Pat Forms Forms pat_layer (λ q. q.form) (record { span = s; form = roll-PatForm PatForm-F.Unit }) ∙ fold-roll-PatForm Forms Forms pat_layer (λ q. q.form) PatForm-F.Unit)
+pub pat-Unit : (s : Span) → pat_ink (pat_at s p.Unit) ≡ pat_layer PatForm-F.Unit
+pat-Unit s = ap (λ x. pat_ink (pat_at s x)) (sym p.rolls-Unit) ∙ (fold-roll-Pat PatInk PatInk pat_layer (λ q. q.form) (record { span = s; form = roll-PatForm PatForm-F.Unit }) ∙ fold-roll-PatForm PatInk PatInk pat_layer (λ q. q.form) PatForm-F.Unit)
 
 pub form-Unit : (s : Span) → form_of_pat (pat_at s p.Unit) ≡ PatForm-F.Unit
 form-Unit s = ap (λ r. out-PatForm r.form) (out-roll-Pat (record { span = s; form = p.Unit })) ∙ (ap out-PatForm (sym p.rolls-Unit) ∙ out-roll-PatForm PatForm-F.Unit)
 
-pub pat-Name : (s : Span) (w : List ℕ) → pat_forms (pat_at s (p.Name w)) ≡ pat_layer (PatForm-F.Name w)
-pat-Name s w = ap (λ x. pat_forms (pat_at s x)) (sym (p.rolls-Name w)) ∙ (fold-roll-Pat Forms Forms pat_layer (λ q. q.form) (record { span = s; form = roll-PatForm (PatForm-F.Name w) }) ∙ fold-roll-PatForm Forms Forms pat_layer (λ q. q.form) (PatForm-F.Name w))
+pub pat-Name : (s : Span) (w : List ℕ) → pat_ink (pat_at s (p.Name w)) ≡ pat_layer (PatForm-F.Name w)
+pat-Name s w = ap (λ x. pat_ink (pat_at s x)) (sym (p.rolls-Name w)) ∙ (fold-roll-Pat PatInk PatInk pat_layer (λ q. q.form) (record { span = s; form = roll-PatForm (PatForm-F.Name w) }) ∙ fold-roll-PatForm PatInk PatInk pat_layer (λ q. q.form) (PatForm-F.Name w))
 
 pub form-Name : (s : Span) (w : List ℕ) → form_of_pat (pat_at s (p.Name w)) ≡ (PatForm-F.Name w)
 form-Name s w = ap (λ r. out-PatForm r.form) (out-roll-Pat (record { span = s; form = (p.Name w) })) ∙ (ap out-PatForm (sym (p.rolls-Name w)) ∙ out-roll-PatForm (PatForm-F.Name w))
 
-pub pat-Tuple : (s : Span) (ps : List Pat) → pat_forms (pat_at s (p.Tuple ps)) ≡ pat_layer (PatForm-F.Tuple (map pat_forms ps))
-pat-Tuple s ps = ap (λ x. pat_forms (pat_at s x)) (sym (p.rolls-Tuple ps)) ∙ (fold-roll-Pat Forms Forms pat_layer (λ q. q.form) (record { span = s; form = roll-PatForm (PatForm-F.Tuple ps) }) ∙ fold-roll-PatForm Forms Forms pat_layer (λ q. q.form) (PatForm-F.Tuple ps))
+pub pat-Tuple : (s : Span) (ps : List Pat) → pat_ink (pat_at s (p.Tuple ps)) ≡ pat_layer (PatForm-F.Tuple (map pat_ink ps))
+pat-Tuple s ps = ap (λ x. pat_ink (pat_at s x)) (sym (p.rolls-Tuple ps)) ∙ (fold-roll-Pat PatInk PatInk pat_layer (λ q. q.form) (record { span = s; form = roll-PatForm (PatForm-F.Tuple ps) }) ∙ fold-roll-PatForm PatInk PatInk pat_layer (λ q. q.form) (PatForm-F.Tuple ps))
 
 pub form-Tuple : (s : Span) (ps : List Pat) → form_of_pat (pat_at s (p.Tuple ps)) ≡ (PatForm-F.Tuple ps)
 form-Tuple s ps = ap (λ r. out-PatForm r.form) (out-roll-Pat (record { span = s; form = (p.Tuple ps) })) ∙ (ap out-PatForm (sym (p.rolls-Tuple ps)) ∙ out-roll-PatForm (PatForm-F.Tuple ps))
 
-pub pat-List : (s : Span) (ps : List Pat) → pat_forms (pat_at s (p.List ps)) ≡ pat_layer (PatForm-F.List (map pat_forms ps))
-pat-List s ps = ap (λ x. pat_forms (pat_at s x)) (sym (p.rolls-List ps)) ∙ (fold-roll-Pat Forms Forms pat_layer (λ q. q.form) (record { span = s; form = roll-PatForm (PatForm-F.List ps) }) ∙ fold-roll-PatForm Forms Forms pat_layer (λ q. q.form) (PatForm-F.List ps))
+pub pat-List : (s : Span) (ps : List Pat) → pat_ink (pat_at s (p.List ps)) ≡ pat_layer (PatForm-F.List (map pat_ink ps))
+pat-List s ps = ap (λ x. pat_ink (pat_at s x)) (sym (p.rolls-List ps)) ∙ (fold-roll-Pat PatInk PatInk pat_layer (λ q. q.form) (record { span = s; form = roll-PatForm (PatForm-F.List ps) }) ∙ fold-roll-PatForm PatInk PatInk pat_layer (λ q. q.form) (PatForm-F.List ps))
 
 pub form-List : (s : Span) (ps : List Pat) → form_of_pat (pat_at s (p.List ps)) ≡ (PatForm-F.List ps)
 form-List s ps = ap (λ r. out-PatForm r.form) (out-roll-Pat (record { span = s; form = (p.List ps) })) ∙ (ap out-PatForm (sym (p.rolls-List ps)) ∙ out-roll-PatForm (PatForm-F.List ps))
 
-pub pat-Con : (s : Span) (w : List ℕ) (x : Pat) → pat_forms (pat_at s (p.Con w x)) ≡ pat_layer (PatForm-F.Con w (pat_forms x))
-pat-Con s w x = ap (λ x. pat_forms (pat_at s x)) (sym (p.rolls-Con w x)) ∙ (fold-roll-Pat Forms Forms pat_layer (λ q. q.form) (record { span = s; form = roll-PatForm (PatForm-F.Con w x) }) ∙ fold-roll-PatForm Forms Forms pat_layer (λ q. q.form) (PatForm-F.Con w x))
+pub pat-Con : (s : Span) (w : List ℕ) (x : Pat) → pat_ink (pat_at s (p.Con w x)) ≡ pat_layer (PatForm-F.Con w (pat_ink x))
+pat-Con s w x = ap (λ x. pat_ink (pat_at s x)) (sym (p.rolls-Con w x)) ∙ (fold-roll-Pat PatInk PatInk pat_layer (λ q. q.form) (record { span = s; form = roll-PatForm (PatForm-F.Con w x) }) ∙ fold-roll-PatForm PatInk PatInk pat_layer (λ q. q.form) (PatForm-F.Con w x))
 
 pub form-Con : (s : Span) (w : List ℕ) (x : Pat) → form_of_pat (pat_at s (p.Con w x)) ≡ (PatForm-F.Con w x)
 form-Con s w x = ap (λ r. out-PatForm r.form) (out-roll-Pat (record { span = s; form = (p.Con w x) })) ∙ (ap out-PatForm (sym (p.rolls-Con w x)) ∙ out-roll-PatForm (PatForm-F.Con w x))
 
-pub pat-Typed : (s : Span) (x : Pat) (t : Ty) → pat_forms (pat_at s (p.Typed x t)) ≡ pat_layer (PatForm-F.Typed (pat_forms x) t)
-pat-Typed s x t = ap (λ x. pat_forms (pat_at s x)) (sym (p.rolls-Typed x t)) ∙ (fold-roll-Pat Forms Forms pat_layer (λ q. q.form) (record { span = s; form = roll-PatForm (PatForm-F.Typed x t) }) ∙ fold-roll-PatForm Forms Forms pat_layer (λ q. q.form) (PatForm-F.Typed x t))
+pub pat-Typed : (s : Span) (x : Pat) (t : Ty) → pat_ink (pat_at s (p.Typed x t)) ≡ pat_layer (PatForm-F.Typed (pat_ink x) t)
+pat-Typed s x t = ap (λ x. pat_ink (pat_at s x)) (sym (p.rolls-Typed x t)) ∙ (fold-roll-Pat PatInk PatInk pat_layer (λ q. q.form) (record { span = s; form = roll-PatForm (PatForm-F.Typed x t) }) ∙ fold-roll-PatForm PatInk PatInk pat_layer (λ q. q.form) (PatForm-F.Typed x t))
 
 pub form-Typed : (s : Span) (x : Pat) (t : Ty) → form_of_pat (pat_at s (p.Typed x t)) ≡ (PatForm-F.Typed x t)
 form-Typed s x t = ap (λ r. out-PatForm r.form) (out-roll-Pat (record { span = s; form = (p.Typed x t) })) ∙ (ap out-PatForm (sym (p.rolls-Typed x t)) ∙ out-roll-PatForm (PatForm-F.Typed x t))
 
-pub ty-Var : (s : Span) (w : List ℕ) → ty_forms (ty_at s (t.Var w)) ≡ ty_layer (TyForm-F.Var w)
-ty-Var s w = ap (λ x. ty_forms (ty_at s x)) (sym (t.rolls-Var w)) ∙ (fold-roll-Ty Forms Forms ty_layer (λ q. q.form) (record { span = s; form = roll-TyForm (TyForm-F.Var w) }) ∙ fold-roll-TyForm Forms Forms ty_layer (λ q. q.form) (TyForm-F.Var w))
+pub ty-Var : (s : Span) (w : List ℕ) → ty_part (ty_at s (t.Var w)) ≡ ty_layer (TyForm-F.Var w)
+ty-Var s w = ap (λ x. ty_part (ty_at s x)) (sym (t.rolls-Var w)) ∙ (fold-roll-Ty Part Part ty_layer (λ q. q.form) (record { span = s; form = roll-TyForm (TyForm-F.Var w) }) ∙ fold-roll-TyForm Part Part ty_layer (λ q. q.form) (TyForm-F.Var w))
 
-pub ty-Con : (s : Span) (w : List ℕ) (ts : List Ty) → ty_forms (ty_at s (t.Con w ts)) ≡ ty_layer (TyForm-F.Con w (map ty_forms ts))
-ty-Con s w ts = ap (λ x. ty_forms (ty_at s x)) (sym (t.rolls-Con w ts)) ∙ (fold-roll-Ty Forms Forms ty_layer (λ q. q.form) (record { span = s; form = roll-TyForm (TyForm-F.Con w ts) }) ∙ fold-roll-TyForm Forms Forms ty_layer (λ q. q.form) (TyForm-F.Con w ts))
+pub ty-Con : (s : Span) (w : List ℕ) (ts : List Ty) → ty_part (ty_at s (t.Con w ts)) ≡ ty_layer (TyForm-F.Con w (map ty_part ts))
+ty-Con s w ts = ap (λ x. ty_part (ty_at s x)) (sym (t.rolls-Con w ts)) ∙ (fold-roll-Ty Part Part ty_layer (λ q. q.form) (record { span = s; form = roll-TyForm (TyForm-F.Con w ts) }) ∙ fold-roll-TyForm Part Part ty_layer (λ q. q.form) (TyForm-F.Con w ts))
 
-pub ty-Tuple : (s : Span) (ts : List Ty) → ty_forms (ty_at s (t.Tuple ts)) ≡ ty_layer (TyForm-F.Tuple (map ty_forms ts))
-ty-Tuple s ts = ap (λ x. ty_forms (ty_at s x)) (sym (t.rolls-Tuple ts)) ∙ (fold-roll-Ty Forms Forms ty_layer (λ q. q.form) (record { span = s; form = roll-TyForm (TyForm-F.Tuple ts) }) ∙ fold-roll-TyForm Forms Forms ty_layer (λ q. q.form) (TyForm-F.Tuple ts))
+pub ty-Tuple : (s : Span) (ts : List Ty) → ty_part (ty_at s (t.Tuple ts)) ≡ ty_layer (TyForm-F.Tuple (map ty_part ts))
+ty-Tuple s ts = ap (λ x. ty_part (ty_at s x)) (sym (t.rolls-Tuple ts)) ∙ (fold-roll-Ty Part Part ty_layer (λ q. q.form) (record { span = s; form = roll-TyForm (TyForm-F.Tuple ts) }) ∙ fold-roll-TyForm Part Part ty_layer (λ q. q.form) (TyForm-F.Tuple ts))
 
-pub ty-Arrow : (s : Span) (x : Ty) (y : Ty) → ty_forms (ty_at s (t.Arrow x y)) ≡ ty_layer (TyForm-F.Arrow (ty_forms x) (ty_forms y))
-ty-Arrow s x y = ap (λ x. ty_forms (ty_at s x)) (sym (t.rolls-Arrow x y)) ∙ (fold-roll-Ty Forms Forms ty_layer (λ q. q.form) (record { span = s; form = roll-TyForm (TyForm-F.Arrow x y) }) ∙ fold-roll-TyForm Forms Forms ty_layer (λ q. q.form) (TyForm-F.Arrow x y))
+pub ty-Arrow : (s : Span) (x : Ty) (y : Ty) → ty_part (ty_at s (t.Arrow x y)) ≡ ty_layer (TyForm-F.Arrow (ty_part x) (ty_part y))
+ty-Arrow s x y = ap (λ x. ty_part (ty_at s x)) (sym (t.rolls-Arrow x y)) ∙ (fold-roll-Ty Part Part ty_layer (λ q. q.form) (record { span = s; form = roll-TyForm (TyForm-F.Arrow x y) }) ∙ fold-roll-TyForm Part Part ty_layer (λ q. q.form) (TyForm-F.Arrow x y))
 
 pub ink-rule : (q : Pat) (x : Exp) → rule_ink (rule_of q x) ≡ record { pat = q; body = exp_ink x }
 ink-rule q x = fold-roll-Rule Forms Ink Forms Forms Ink RuleInk dec_layer exp_layer piece_layer (λ d. d.form) (λ e. e.form) rule_layer (record { pat = q; body = x })

@@ -1,6 +1,7 @@
 -- What is printed of a tree, by the parts of its form.
 use Rattle.std.proofs.Common.{◌≡◌, ℕ, List, [], ◌∷◌, ◌++◌, refl, ap, ap₂, sym, ◌∙◌, map}
-use Rattle.std.specs.Prelude.{codes, cond}
+use Rattle.std.specs.Prelude.{codes, cond, Bool, true, false, Option, Some, None}
+use Rattle.sml_syntax.specs.declared.token.TokenForm.{TokenForm}
 use Rattle.sml_syntax.specs.declared.token.TokenForm.TheVariants as f
 use Rattle.sml_syntax.specs.declared.tree.Span.{Span}
 use Rattle.sml_syntax.specs.declared.tree.Ty.{Ty, out-Ty}
@@ -25,135 +26,231 @@ use Rattle.sml_syntax.specs.declared.tree.DecForm.TheFolds.{fold-roll-Exp, fold-
 use Rattle.sml_syntax.specs.Layers.{ExpLayer, DecLayer, PatLayer, form_of_pat, form_of_exp, form_of_dec}
 use Rattle.sml_syntax.specs.NestedTypes.{TyLayer, form_of_ty}
 use Rattle.sml_syntax.specs.Nodes.{exp_at, pat_at, ty_at, dec_at}
-use Rattle.print_laws.specs.Printing.{Forms, Ink, RuleInk, in_parens, parted, starred, ty_layer, ty_forms, pat_layer, pat_forms, exp_layer, exp_ink, exp_forms, piece_layer, piece_forms, rule_layer, rule_ink, rule_forms, dec_layer, dec_forms, clause_of, inner_clauses, one_clause, several_clause, function_forms, bind_forms, is_number, type_name}
-use Rattle.print_laws.specs.Opened.{ty_text, starred_text, pat_text, exp_text, piece_text, dec_text, rule_text, clause_in, clause_text, clauses_in, first_clauses, lone_in, function_text, several_text}
-use Rattle.print_laws.proofs.Lists.{parted_map, flat_map_map, parted_same}
+use Rattle.print_laws.specs.Printing.{Forms, Ink, RuleInk, Part, closed, atomic, whole, in_parens, parted, alternatives, starred, put, ty_layer, ty_part, ty_forms, put_ty, PatInk, is_cons, con_pat, pats_forms, pat_layer, pat_ink, pat_part, pat_forms, put_pat, head_forms, app_part, exp_layer, exp_ink, exp_part, exp_forms, piece_layer, piece_forms, rule_layer, rule_ink, rule_forms, match_forms, dec_layer, dec_forms, clause_of, inner_clauses, one_clause, several_clause, function_forms, bind_forms, is_number, type_name}
+use Rattle.print_laws.specs.Opened.{ty_text, ty_level, starred_text, pat_text, pat_level, pat_members, con_pat_text, con_pat_level, put_text, app_text, app_level, level_in, opens_in, exp_text, piece_text, dec_text, rule_text, match_text, clause_in, clause_text, clauses_in, first_clauses, lone_in, operator_in, members_in, function_text, several_text}
+use Rattle.print_laws.proofs.Lists.{parted_map, flat_map_map, parted_same, alternatives_map, alternatives_same}
 
 -- types
-starred_list : (ts : List Ty) → starred (map ty_forms ts) ≡ starred_text ts
+starred_list : (ts : List Ty) → starred (map ty_part ts) ≡ starred_text ts
 starred_list [] = refl
-starred_list (t ∷ ts) = ap (λ w. ty_forms t ++ w) (flat_map_map (λ t. f.Name (codes "*") ∷ t) ty_forms ts)
+starred_list (t ∷ ts) = ap (λ w. put_ty 2 t ++ w) (flat_map_map (λ (t : Part). f.Name (codes "*") ∷ put 2 t) ty_part ts)
 
-ty_layers : (l : TyLayer) (s : Span) → ty_forms (ty_at s (roll-TyForm l)) ≡ ty_text l
-ty_layers (TyForm-F.Var w) s = (fold-roll-Ty Forms Forms ty_layer (λ q. q.form) (record { span = s; form = roll-TyForm (TyForm-F.Var w) }) ∙ fold-roll-TyForm Forms Forms ty_layer (λ q. q.form) (TyForm-F.Var w))
-ty_layers (TyForm-F.Con w []) s = (fold-roll-Ty Forms Forms ty_layer (λ q. q.form) (record { span = s; form = roll-TyForm (TyForm-F.Con w []) }) ∙ fold-roll-TyForm Forms Forms ty_layer (λ q. q.form) (TyForm-F.Con w []))
-ty_layers (TyForm-F.Con w (t ∷ [])) s = (fold-roll-Ty Forms Forms ty_layer (λ q. q.form) (record { span = s; form = roll-TyForm (TyForm-F.Con w (t ∷ [])) }) ∙ fold-roll-TyForm Forms Forms ty_layer (λ q. q.form) (TyForm-F.Con w (t ∷ [])))
-ty_layers (TyForm-F.Con w (t ∷ u ∷ us)) s = (fold-roll-Ty Forms Forms ty_layer (λ q. q.form) (record { span = s; form = roll-TyForm (TyForm-F.Con w (t ∷ u ∷ us)) }) ∙ fold-roll-TyForm Forms Forms ty_layer (λ q. q.form) (TyForm-F.Con w (t ∷ u ∷ us))) ∙ ap (λ z. (f.Mark (codes "(") ∷ z) ++ f.Mark (codes ")") ∷ type_name w ∷ []) (parted_map (codes ",") (λ t. t) ty_forms (t ∷ u ∷ us))
-ty_layers (TyForm-F.Tuple ts) s = (fold-roll-Ty Forms Forms ty_layer (λ q. q.form) (record { span = s; form = roll-TyForm (TyForm-F.Tuple ts) }) ∙ fold-roll-TyForm Forms Forms ty_layer (λ q. q.form) (TyForm-F.Tuple ts)) ∙ ap in_parens (starred_list ts)
-ty_layers (TyForm-F.Arrow x y) s = (fold-roll-Ty Forms Forms ty_layer (λ q. q.form) (record { span = s; form = roll-TyForm (TyForm-F.Arrow x y) }) ∙ fold-roll-TyForm Forms Forms ty_layer (λ q. q.form) (TyForm-F.Arrow x y))
+-- a form with what is printed of its parts
+abbrev ty_inked : TyLayer → TyForm-F Part Part
+ty_inked (TyForm-F.Var w) = TyForm-F.Var w
+ty_inked (TyForm-F.Con w ts) = TyForm-F.Con w (map ty_part ts)
+ty_inked (TyForm-F.Tuple ts) = TyForm-F.Tuple (map ty_part ts)
+ty_inked (TyForm-F.Arrow x y) = TyForm-F.Arrow (ty_part x) (ty_part y)
+
+ty_layers : (l : TyLayer) (s : Span) → ty_part (ty_at s (roll-TyForm l)) ≡ ty_layer (ty_inked l)
+ty_layers (TyForm-F.Var w) s = fold-roll-Ty Part Part ty_layer (λ q. q.form) (record { span = s; form = roll-TyForm (TyForm-F.Var w) }) ∙ fold-roll-TyForm Part Part ty_layer (λ q. q.form) (TyForm-F.Var w)
+ty_layers l s = fold-roll-Ty Part Part ty_layer (λ q. q.form) (record { span = s; form = roll-TyForm l }) ∙ fold-roll-TyForm Part Part ty_layer (λ q. q.form) l
+
+-- the part of a type, by its form
+abbrev pub ty_part_in : TyLayer → Part
+ty_part_in l = closed (ty_level l) (ty_text l)
+
+ty_parts : (l : TyLayer) → ty_layer (ty_inked l) ≡ ty_part_in l
+ty_parts (TyForm-F.Var w) = refl
+ty_parts (TyForm-F.Con w []) = refl
+ty_parts (TyForm-F.Con w (t ∷ [])) = refl
+ty_parts (TyForm-F.Con w (t ∷ u ∷ us)) = ap (λ z. closed 2 ((f.Mark (codes "(") ∷ z) ++ f.Mark (codes ")") ∷ type_name w ∷ [])) (parted_map (codes ",") (λ (t : Part). t.forms) ty_part (t ∷ u ∷ us))
+ty_parts (TyForm-F.Tuple ts) = ap (closed 1) (starred_list ts)
+ty_parts (TyForm-F.Arrow x y) = refl
+
+pub ty_part_opened : (t : Ty) → ty_part t ≡ ty_part_in (form_of_ty t)
+ty_part_opened t =
+    ap ty_part (sym (roll-out-Ty t))
+    ∙ (ap (λ x. ty_part (ty_at (out-Ty t).span x)) (sym (roll-out-TyForm (out-Ty t).form))
+    ∙ (ty_layers (form_of_ty t) (out-Ty t).span ∙ ty_parts (form_of_ty t)))
+
+pub ty_level_opened : (t : Ty) → (ty_part t).level ≡ ty_level (form_of_ty t)
+ty_level_opened t = ap (λ (p : Part). p.level) (ty_part_opened t)
 
 pub ty_opened : (t : Ty) → ty_forms t ≡ ty_text (form_of_ty t)
-ty_opened t = ap ty_forms (sym (roll-out-Ty t)) ∙ (ap (λ x. ty_forms (ty_at (out-Ty t).span x)) (sym (roll-out-TyForm (out-Ty t).form)) ∙ ty_layers (form_of_ty t) (out-Ty t).span)
+ty_opened t = ap (λ (p : Part). p.forms) (ty_part_opened t)
 
 -- patterns
-pat_layers : (l : PatLayer) (s : Span) → pat_forms (pat_at s (roll-PatForm l)) ≡ pat_text l
-pat_layers PatForm-F.Any s = (fold-roll-Pat Forms Forms pat_layer (λ q. q.form) (record { span = s; form = roll-PatForm PatForm-F.Any }) ∙ fold-roll-PatForm Forms Forms pat_layer (λ q. q.form) PatForm-F.Any)
-pat_layers (PatForm-F.Int n) s = (fold-roll-Pat Forms Forms pat_layer (λ q. q.form) (record { span = s; form = roll-PatForm (PatForm-F.Int n) }) ∙ fold-roll-PatForm Forms Forms pat_layer (λ q. q.form) (PatForm-F.Int n))
-pat_layers (PatForm-F.Char n) s = (fold-roll-Pat Forms Forms pat_layer (λ q. q.form) (record { span = s; form = roll-PatForm (PatForm-F.Char n) }) ∙ fold-roll-PatForm Forms Forms pat_layer (λ q. q.form) (PatForm-F.Char n))
-pat_layers (PatForm-F.Str w) s = (fold-roll-Pat Forms Forms pat_layer (λ q. q.form) (record { span = s; form = roll-PatForm (PatForm-F.Str w) }) ∙ fold-roll-PatForm Forms Forms pat_layer (λ q. q.form) (PatForm-F.Str w))
-pat_layers PatForm-F.Unit s = (fold-roll-Pat Forms Forms pat_layer (λ q. q.form) (record { span = s; form = roll-PatForm PatForm-F.Unit }) ∙ fold-roll-PatForm Forms Forms pat_layer (λ q. q.form) PatForm-F.Unit)
-pat_layers (PatForm-F.Name w) s = (fold-roll-Pat Forms Forms pat_layer (λ q. q.form) (record { span = s; form = roll-PatForm (PatForm-F.Name w) }) ∙ fold-roll-PatForm Forms Forms pat_layer (λ q. q.form) (PatForm-F.Name w))
-pat_layers (PatForm-F.Tuple ps) s = (fold-roll-Pat Forms Forms pat_layer (λ q. q.form) (record { span = s; form = roll-PatForm (PatForm-F.Tuple ps) }) ∙ fold-roll-PatForm Forms Forms pat_layer (λ q. q.form) (PatForm-F.Tuple ps)) ∙ ap in_parens (parted_map (codes ",") (λ p. p) pat_forms ps)
-pat_layers (PatForm-F.List ps) s = (fold-roll-Pat Forms Forms pat_layer (λ q. q.form) (record { span = s; form = roll-PatForm (PatForm-F.List ps) }) ∙ fold-roll-PatForm Forms Forms pat_layer (λ q. q.form) (PatForm-F.List ps)) ∙ ap (λ z. (f.Mark (codes "[") ∷ z) ++ f.Mark (codes "]") ∷ []) (parted_map (codes ",") (λ p. p) pat_forms ps)
-pat_layers (PatForm-F.Con w x) s = (fold-roll-Pat Forms Forms pat_layer (λ q. q.form) (record { span = s; form = roll-PatForm (PatForm-F.Con w x) }) ∙ fold-roll-PatForm Forms Forms pat_layer (λ q. q.form) (PatForm-F.Con w x))
-pat_layers (PatForm-F.Typed x t) s = (fold-roll-Pat Forms Forms pat_layer (λ q. q.form) (record { span = s; form = roll-PatForm (PatForm-F.Typed x t) }) ∙ fold-roll-PatForm Forms Forms pat_layer (λ q. q.form) (PatForm-F.Typed x t))
+abbrev pat_inked : PatLayer → PatForm-F PatInk PatInk
+pat_inked PatForm-F.Any = PatForm-F.Any
+pat_inked (PatForm-F.Int n) = PatForm-F.Int n
+pat_inked (PatForm-F.Char n) = PatForm-F.Char n
+pat_inked (PatForm-F.Str w) = PatForm-F.Str w
+pat_inked PatForm-F.Unit = PatForm-F.Unit
+pat_inked (PatForm-F.Name w) = PatForm-F.Name w
+pat_inked (PatForm-F.Tuple ps) = PatForm-F.Tuple (map pat_ink ps)
+pat_inked (PatForm-F.List ps) = PatForm-F.List (map pat_ink ps)
+pat_inked (PatForm-F.Con w x) = PatForm-F.Con w (pat_ink x)
+pat_inked (PatForm-F.Typed x t) = PatForm-F.Typed (pat_ink x) t
+
+pat_layers : (l : PatLayer) (s : Span) → pat_ink (pat_at s (roll-PatForm l)) ≡ pat_layer (pat_inked l)
+pat_layers PatForm-F.Any s = fold-roll-Pat PatInk PatInk pat_layer (λ q. q.form) (record { span = s; form = roll-PatForm PatForm-F.Any }) ∙ fold-roll-PatForm PatInk PatInk pat_layer (λ q. q.form) PatForm-F.Any
+pat_layers l s = fold-roll-Pat PatInk PatInk pat_layer (λ q. q.form) (record { span = s; form = roll-PatForm l }) ∙ fold-roll-PatForm PatInk PatInk pat_layer (λ q. q.form) l
+
+pat_ink_opened : (q : Pat) → pat_ink q ≡ pat_layer (pat_inked (form_of_pat q))
+pat_ink_opened q = ap pat_ink (sym (roll-out-Pat q)) ∙ (ap (λ x. pat_ink (pat_at (out-Pat q).span x)) (sym (roll-out-PatForm (out-Pat q).form)) ∙ pat_layers (form_of_pat q) (out-Pat q).span)
+
+pat_parts_printed : (ps : List Pat) → map (λ (i : PatInk). i.part) (map pat_ink ps) ≡ map pat_part ps
+pat_parts_printed [] = refl
+pat_parts_printed (p ∷ ps) = ap (λ qs. pat_part p ∷ qs) (pat_parts_printed ps)
+
+pat_member_layers : (l : PatLayer) → (pat_layer (pat_inked l)).members ≡ map pat_part (pat_members l)
+pat_member_layers (PatForm-F.Tuple ps) = pat_parts_printed ps
+pat_member_layers _ = refl
+
+pub pat_members_opened : (q : Pat) → (pat_ink q).members ≡ map pat_part (pat_members (form_of_pat q))
+pat_members_opened q = ap (λ (i : PatInk). i.members) (pat_ink_opened q) ∙ pat_member_layers (form_of_pat q)
+
+-- the part of a pattern, by its form
+abbrev pub pat_part_in : PatLayer → Part
+pat_part_in l = closed (pat_level l) (pat_text l)
+
+cond_closed : (b : Bool) (m n : ℕ) (p q : Forms) → cond b (closed m p) (closed n q) ≡ closed (cond b m n) (cond b p q)
+cond_closed true m n p q = refl
+cond_closed false m n p q = refl
+
+con_pat_shown : (w : List ℕ) (ps : List Pat) (x : Pat) → con_pat w (map pat_part ps) (pat_part x) ≡ closed (con_pat_level w ps) (con_pat_text w ps x)
+con_pat_shown w [] x = refl
+con_pat_shown w (u ∷ []) x = refl
+con_pat_shown w (u ∷ v ∷ []) x = cond_closed (is_cons w) 1 2 (put_pat 2 u ++ f.Name (codes "::") ∷ put_pat 1 v) (head_forms w ++ put_pat 3 x)
+con_pat_shown w (u ∷ v ∷ y ∷ ys) x = refl
+
+pats_printed : (ps : List Pat) → pats_forms (map pat_ink ps) ≡ parted (codes ",") pat_forms ps
+pats_printed ps = parted_map (codes ",") (λ (p : PatInk). p.part.forms) pat_ink ps
+
+pat_parts : (l : PatLayer) → (pat_layer (pat_inked l)).part ≡ pat_part_in l
+pat_parts (PatForm-F.Tuple ps) = ap (λ z. closed 3 (in_parens z)) (pats_printed ps)
+pat_parts (PatForm-F.List ps) = ap (λ z. closed 3 ((f.Mark (codes "[") ∷ z) ++ f.Mark (codes "]") ∷ [])) (pats_printed ps)
+pat_parts (PatForm-F.Con w x) = ap (λ ps. con_pat w ps (pat_part x)) (pat_members_opened x) ∙ con_pat_shown w (pat_members (form_of_pat x)) x
+pat_parts _ = refl
+
+pub pat_part_opened : (q : Pat) → pat_part q ≡ pat_part_in (form_of_pat q)
+pat_part_opened q = ap (λ (i : PatInk). i.part) (pat_ink_opened q) ∙ pat_parts (form_of_pat q)
+
+pub pat_level_opened : (q : Pat) → (pat_part q).level ≡ pat_level (form_of_pat q)
+pat_level_opened q = ap (λ (p : Part). p.level) (pat_part_opened q)
 
 pub pat_opened : (q : Pat) → pat_forms q ≡ pat_text (form_of_pat q)
-pat_opened q = ap pat_forms (sym (roll-out-Pat q)) ∙ (ap (λ x. pat_forms (pat_at (out-Pat q).span x)) (sym (roll-out-PatForm (out-Pat q).form)) ∙ pat_layers (form_of_pat q) (out-Pat q).span)
+pat_opened q = ap (λ (p : Part). p.forms) (pat_part_opened q)
 
 -- rules
 pub rule_is : (r : Rule) → rule_ink r ≡ record { pat = (out-Rule r).pat; body = exp_ink (out-Rule r).body }
 rule_is r = fold_out-Rule Forms Ink Forms Forms Ink RuleInk dec_layer exp_layer piece_layer (λ d. d.form) (λ e. e.form) rule_layer r
 
-pub rules_printed : (rs : List Rule) → parted (codes "|") rule_forms (map rule_ink rs) ≡ parted (codes "|") rule_text rs
-rules_printed rs = parted_map (codes "|") rule_forms rule_ink rs ∙ parted_same (codes "|") (λ r. rule_forms (rule_ink r)) rule_text (λ r. ap rule_forms (rule_is r)) rs
+pub rules_printed : (rs : List Rule) → match_forms (map rule_ink rs) ≡ match_text rs
+rules_printed rs = alternatives_map rule_forms rule_ink rs ∙ alternatives_same (λ last r. rule_forms last (rule_ink r)) rule_text (λ last r. ap (rule_forms last) (rule_is r)) rs
 
 clauses_printed : (rs : List Rule) → map clause_of (map rule_ink rs) ≡ map clause_in rs
 clauses_printed [] = refl
 clauses_printed (r ∷ rs) = ap₂ (λ c cs. c ∷ cs) (ap clause_of (rule_is r)) (clauses_printed rs)
 
 -- expressions
-exps_printed : (m : List ℕ) (es : List Exp) → parted m (λ (e : Ink). e.forms) (map exp_ink es) ≡ parted m exp_forms es
-exps_printed m es = parted_map m (λ (e : Ink). e.forms) exp_ink es
+exps_printed : (m : List ℕ) (es : List Exp) → parted m (λ (e : Ink). e.part.forms) (map exp_ink es) ≡ parted m exp_forms es
+exps_printed m es = parted_map m (λ (e : Ink). e.part.forms) exp_ink es
 
-exp_layers : (l : ExpLayer) (s : Span) → exp_forms (exp_at s (roll-ExpForm l)) ≡ exp_text l
-exp_layers (ExpForm-F.Int n) s = ap (λ (i : Ink). i.forms) (fold-roll-Exp Forms Ink Forms Forms Ink RuleInk dec_layer exp_layer piece_layer (λ d. d.form) (λ e. e.form) rule_layer (record { span = s; form = roll-ExpForm (ExpForm-F.Int n) }) ∙ fold-roll-ExpForm Forms Ink Forms Forms Ink RuleInk dec_layer exp_layer piece_layer (λ d. d.form) (λ e. e.form) rule_layer (ExpForm-F.Int n))
-exp_layers (ExpForm-F.Char n) s = ap (λ (i : Ink). i.forms) (fold-roll-Exp Forms Ink Forms Forms Ink RuleInk dec_layer exp_layer piece_layer (λ d. d.form) (λ e. e.form) rule_layer (record { span = s; form = roll-ExpForm (ExpForm-F.Char n) }) ∙ fold-roll-ExpForm Forms Ink Forms Forms Ink RuleInk dec_layer exp_layer piece_layer (λ d. d.form) (λ e. e.form) rule_layer (ExpForm-F.Char n))
-exp_layers (ExpForm-F.Str w) s = ap (λ (i : Ink). i.forms) (fold-roll-Exp Forms Ink Forms Forms Ink RuleInk dec_layer exp_layer piece_layer (λ d. d.form) (λ e. e.form) rule_layer (record { span = s; form = roll-ExpForm (ExpForm-F.Str w) }) ∙ fold-roll-ExpForm Forms Ink Forms Forms Ink RuleInk dec_layer exp_layer piece_layer (λ d. d.form) (λ e. e.form) rule_layer (ExpForm-F.Str w))
-exp_layers (ExpForm-F.Name w) s = ap (λ (i : Ink). i.forms) (fold-roll-Exp Forms Ink Forms Forms Ink RuleInk dec_layer exp_layer piece_layer (λ d. d.form) (λ e. e.form) rule_layer (record { span = s; form = roll-ExpForm (ExpForm-F.Name w) }) ∙ fold-roll-ExpForm Forms Ink Forms Forms Ink RuleInk dec_layer exp_layer piece_layer (λ d. d.form) (λ e. e.form) rule_layer (ExpForm-F.Name w))
-exp_layers ExpForm-F.Unit s = ap (λ (i : Ink). i.forms) (fold-roll-Exp Forms Ink Forms Forms Ink RuleInk dec_layer exp_layer piece_layer (λ d. d.form) (λ e. e.form) rule_layer (record { span = s; form = roll-ExpForm ExpForm-F.Unit }) ∙ fold-roll-ExpForm Forms Ink Forms Forms Ink RuleInk dec_layer exp_layer piece_layer (λ d. d.form) (λ e. e.form) rule_layer ExpForm-F.Unit)
-exp_layers (ExpForm-F.Tuple es) s = ap (λ (i : Ink). i.forms) (fold-roll-Exp Forms Ink Forms Forms Ink RuleInk dec_layer exp_layer piece_layer (λ d. d.form) (λ e. e.form) rule_layer (record { span = s; form = roll-ExpForm (ExpForm-F.Tuple es) }) ∙ fold-roll-ExpForm Forms Ink Forms Forms Ink RuleInk dec_layer exp_layer piece_layer (λ d. d.form) (λ e. e.form) rule_layer (ExpForm-F.Tuple es)) ∙ ap in_parens (exps_printed (codes ",") es)
-exp_layers (ExpForm-F.List es) s = ap (λ (i : Ink). i.forms) (fold-roll-Exp Forms Ink Forms Forms Ink RuleInk dec_layer exp_layer piece_layer (λ d. d.form) (λ e. e.form) rule_layer (record { span = s; form = roll-ExpForm (ExpForm-F.List es) }) ∙ fold-roll-ExpForm Forms Ink Forms Forms Ink RuleInk dec_layer exp_layer piece_layer (λ d. d.form) (λ e. e.form) rule_layer (ExpForm-F.List es)) ∙ ap (λ z. (f.Mark (codes "[") ∷ z) ++ f.Mark (codes "]") ∷ []) (exps_printed (codes ",") es)
-exp_layers (ExpForm-F.Seq es) s = ap (λ (i : Ink). i.forms) (fold-roll-Exp Forms Ink Forms Forms Ink RuleInk dec_layer exp_layer piece_layer (λ d. d.form) (λ e. e.form) rule_layer (record { span = s; form = roll-ExpForm (ExpForm-F.Seq es) }) ∙ fold-roll-ExpForm Forms Ink Forms Forms Ink RuleInk dec_layer exp_layer piece_layer (λ d. d.form) (λ e. e.form) rule_layer (ExpForm-F.Seq es)) ∙ ap in_parens (exps_printed (codes ";") es)
-exp_layers (ExpForm-F.App x y) s = ap (λ (i : Ink). i.forms) (fold-roll-Exp Forms Ink Forms Forms Ink RuleInk dec_layer exp_layer piece_layer (λ d. d.form) (λ e. e.form) rule_layer (record { span = s; form = roll-ExpForm (ExpForm-F.App x y) }) ∙ fold-roll-ExpForm Forms Ink Forms Forms Ink RuleInk dec_layer exp_layer piece_layer (λ d. d.form) (λ e. e.form) rule_layer (ExpForm-F.App x y))
-exp_layers (ExpForm-F.Let ds es) s = ap (λ (i : Ink). i.forms) (fold-roll-Exp Forms Ink Forms Forms Ink RuleInk dec_layer exp_layer piece_layer (λ d. d.form) (λ e. e.form) rule_layer (record { span = s; form = roll-ExpForm (ExpForm-F.Let ds es) }) ∙ fold-roll-ExpForm Forms Ink Forms Forms Ink RuleInk dec_layer exp_layer piece_layer (λ d. d.form) (λ e. e.form) rule_layer (ExpForm-F.Let ds es)) ∙ ap₂ (λ u v. (f.Mark (codes "let") ∷ u) ++ f.Mark (codes "in") ∷ v ++ f.Mark (codes "end") ∷ []) (flat_map_map (λ d. d) dec_forms ds) (exps_printed (codes ";") es)
-exp_layers (ExpForm-F.Fn rs) s = ap (λ (i : Ink). i.forms) (fold-roll-Exp Forms Ink Forms Forms Ink RuleInk dec_layer exp_layer piece_layer (λ d. d.form) (λ e. e.form) rule_layer (record { span = s; form = roll-ExpForm (ExpForm-F.Fn rs) }) ∙ fold-roll-ExpForm Forms Ink Forms Forms Ink RuleInk dec_layer exp_layer piece_layer (λ d. d.form) (λ e. e.form) rule_layer (ExpForm-F.Fn rs)) ∙ ap (λ z. in_parens (f.Mark (codes "fn") ∷ z)) (rules_printed rs)
-exp_layers (ExpForm-F.Case x rs) s = ap (λ (i : Ink). i.forms) (fold-roll-Exp Forms Ink Forms Forms Ink RuleInk dec_layer exp_layer piece_layer (λ d. d.form) (λ e. e.form) rule_layer (record { span = s; form = roll-ExpForm (ExpForm-F.Case x rs) }) ∙ fold-roll-ExpForm Forms Ink Forms Forms Ink RuleInk dec_layer exp_layer piece_layer (λ d. d.form) (λ e. e.form) rule_layer (ExpForm-F.Case x rs)) ∙ ap (λ z. in_parens (f.Mark (codes "case") ∷ exp_forms x ++ f.Mark (codes "of") ∷ z)) (rules_printed rs)
-exp_layers (ExpForm-F.Handle x rs) s = ap (λ (i : Ink). i.forms) (fold-roll-Exp Forms Ink Forms Forms Ink RuleInk dec_layer exp_layer piece_layer (λ d. d.form) (λ e. e.form) rule_layer (record { span = s; form = roll-ExpForm (ExpForm-F.Handle x rs) }) ∙ fold-roll-ExpForm Forms Ink Forms Forms Ink RuleInk dec_layer exp_layer piece_layer (λ d. d.form) (λ e. e.form) rule_layer (ExpForm-F.Handle x rs)) ∙ ap (λ z. in_parens (exp_forms x ++ f.Mark (codes "handle") ∷ z)) (rules_printed rs)
-exp_layers (ExpForm-F.Raise x) s = ap (λ (i : Ink). i.forms) (fold-roll-Exp Forms Ink Forms Forms Ink RuleInk dec_layer exp_layer piece_layer (λ d. d.form) (λ e. e.form) rule_layer (record { span = s; form = roll-ExpForm (ExpForm-F.Raise x) }) ∙ fold-roll-ExpForm Forms Ink Forms Forms Ink RuleInk dec_layer exp_layer piece_layer (λ d. d.form) (λ e. e.form) rule_layer (ExpForm-F.Raise x))
-exp_layers (ExpForm-F.If x y z) s = ap (λ (i : Ink). i.forms) (fold-roll-Exp Forms Ink Forms Forms Ink RuleInk dec_layer exp_layer piece_layer (λ d. d.form) (λ e. e.form) rule_layer (record { span = s; form = roll-ExpForm (ExpForm-F.If x y z) }) ∙ fold-roll-ExpForm Forms Ink Forms Forms Ink RuleInk dec_layer exp_layer piece_layer (λ d. d.form) (λ e. e.form) rule_layer (ExpForm-F.If x y z))
-exp_layers (ExpForm-F.Both x y) s = ap (λ (i : Ink). i.forms) (fold-roll-Exp Forms Ink Forms Forms Ink RuleInk dec_layer exp_layer piece_layer (λ d. d.form) (λ e. e.form) rule_layer (record { span = s; form = roll-ExpForm (ExpForm-F.Both x y) }) ∙ fold-roll-ExpForm Forms Ink Forms Forms Ink RuleInk dec_layer exp_layer piece_layer (λ d. d.form) (λ e. e.form) rule_layer (ExpForm-F.Both x y))
-exp_layers (ExpForm-F.Either x y) s = ap (λ (i : Ink). i.forms) (fold-roll-Exp Forms Ink Forms Forms Ink RuleInk dec_layer exp_layer piece_layer (λ d. d.form) (λ e. e.form) rule_layer (record { span = s; form = roll-ExpForm (ExpForm-F.Either x y) }) ∙ fold-roll-ExpForm Forms Ink Forms Forms Ink RuleInk dec_layer exp_layer piece_layer (λ d. d.form) (λ e. e.form) rule_layer (ExpForm-F.Either x y))
-exp_layers (ExpForm-F.Quote ps) s = ap (λ (i : Ink). i.forms) (fold-roll-Exp Forms Ink Forms Forms Ink RuleInk dec_layer exp_layer piece_layer (λ d. d.form) (λ e. e.form) rule_layer (record { span = s; form = roll-ExpForm (ExpForm-F.Quote ps) }) ∙ fold-roll-ExpForm Forms Ink Forms Forms Ink RuleInk dec_layer exp_layer piece_layer (λ d. d.form) (λ e. e.form) rule_layer (ExpForm-F.Quote ps)) ∙ ap (λ z. (f.QuoteFrom ∷ z) ++ f.QuoteTo ∷ []) (flat_map_map (λ p. p) piece_forms ps)
-exp_layers (ExpForm-F.Typed x t) s = ap (λ (i : Ink). i.forms) (fold-roll-Exp Forms Ink Forms Forms Ink RuleInk dec_layer exp_layer piece_layer (λ d. d.form) (λ e. e.form) rule_layer (record { span = s; form = roll-ExpForm (ExpForm-F.Typed x t) }) ∙ fold-roll-ExpForm Forms Ink Forms Forms Ink RuleInk dec_layer exp_layer piece_layer (λ d. d.form) (λ e. e.form) rule_layer (ExpForm-F.Typed x t))
+-- a form with what is printed of its parts
+abbrev inked : ExpLayer → ExpForm-F Forms Ink Forms Forms Ink RuleInk
+inked (ExpForm-F.Int n) = ExpForm-F.Int n
+inked (ExpForm-F.Char n) = ExpForm-F.Char n
+inked (ExpForm-F.Str w) = ExpForm-F.Str w
+inked (ExpForm-F.Name w) = ExpForm-F.Name w
+inked ExpForm-F.Unit = ExpForm-F.Unit
+inked (ExpForm-F.Tuple es) = ExpForm-F.Tuple (map exp_ink es)
+inked (ExpForm-F.List es) = ExpForm-F.List (map exp_ink es)
+inked (ExpForm-F.Seq es) = ExpForm-F.Seq (map exp_ink es)
+inked (ExpForm-F.App x y) = ExpForm-F.App (exp_ink x) (exp_ink y)
+inked (ExpForm-F.Let ds es) = ExpForm-F.Let (map dec_forms ds) (map exp_ink es)
+inked (ExpForm-F.Fn rs) = ExpForm-F.Fn (map rule_ink rs)
+inked (ExpForm-F.Case x rs) = ExpForm-F.Case (exp_ink x) (map rule_ink rs)
+inked (ExpForm-F.Handle x rs) = ExpForm-F.Handle (exp_ink x) (map rule_ink rs)
+inked (ExpForm-F.Raise x) = ExpForm-F.Raise (exp_ink x)
+inked (ExpForm-F.If x y z) = ExpForm-F.If (exp_ink x) (exp_ink y) (exp_ink z)
+inked (ExpForm-F.Both x y) = ExpForm-F.Both (exp_ink x) (exp_ink y)
+inked (ExpForm-F.Either x y) = ExpForm-F.Either (exp_ink x) (exp_ink y)
+inked (ExpForm-F.Quote ps) = ExpForm-F.Quote (map piece_forms ps)
+inked (ExpForm-F.Typed x t) = ExpForm-F.Typed (exp_ink x) t
 
-pub exp_opened : (x : Exp) → exp_forms x ≡ exp_text (form_of_exp x)
-exp_opened x = ap exp_forms (sym (roll-out-Exp x)) ∙ (ap (λ y. exp_forms (exp_at (out-Exp x).span y)) (sym (roll-out-ExpForm (out-Exp x).form)) ∙ exp_layers (form_of_exp x) (out-Exp x).span)
+ink_layers : (l : ExpLayer) (s : Span) → exp_ink (exp_at s (roll-ExpForm l)) ≡ exp_layer (inked l)
+ink_layers (ExpForm-F.Int n) s = fold-roll-Exp Forms Ink Forms Forms Ink RuleInk dec_layer exp_layer piece_layer (λ d. d.form) (λ e. e.form) rule_layer (record { span = s; form = roll-ExpForm (ExpForm-F.Int n) }) ∙ fold-roll-ExpForm Forms Ink Forms Forms Ink RuleInk dec_layer exp_layer piece_layer (λ d. d.form) (λ e. e.form) rule_layer (ExpForm-F.Int n)
+ink_layers l s = fold-roll-Exp Forms Ink Forms Forms Ink RuleInk dec_layer exp_layer piece_layer (λ d. d.form) (λ e. e.form) rule_layer (record { span = s; form = roll-ExpForm l }) ∙ fold-roll-ExpForm Forms Ink Forms Forms Ink RuleInk dec_layer exp_layer piece_layer (λ d. d.form) (λ e. e.form) rule_layer l
+
+ink_opened : (x : Exp) → exp_ink x ≡ exp_layer (inked (form_of_exp x))
+ink_opened x = ap exp_ink (sym (roll-out-Exp x)) ∙ (ap (λ y. exp_ink (exp_at (out-Exp x).span y)) (sym (roll-out-ExpForm (out-Exp x).form)) ∙ ink_layers (form_of_exp x) (out-Exp x).span)
 
 first_printed : (rs : List Rule) → inner_clauses (map rule_ink rs) ≡ first_clauses rs
 first_printed [] = refl
 first_printed (r ∷ rs) = ap (λ (q : RuleInk). q.body.clauses) (rule_is r)
 
-clause_layers : (l : ExpLayer) (s : Span) → (exp_ink (exp_at s (roll-ExpForm l))).clauses ≡ clauses_in l
-clause_layers (ExpForm-F.Int n) s = ap (λ (i : Ink). i.clauses) (fold-roll-Exp Forms Ink Forms Forms Ink RuleInk dec_layer exp_layer piece_layer (λ d. d.form) (λ e. e.form) rule_layer (record { span = s; form = roll-ExpForm (ExpForm-F.Int n) }) ∙ fold-roll-ExpForm Forms Ink Forms Forms Ink RuleInk dec_layer exp_layer piece_layer (λ d. d.form) (λ e. e.form) rule_layer (ExpForm-F.Int n))
-clause_layers (ExpForm-F.Char n) s = ap (λ (i : Ink). i.clauses) (fold-roll-Exp Forms Ink Forms Forms Ink RuleInk dec_layer exp_layer piece_layer (λ d. d.form) (λ e. e.form) rule_layer (record { span = s; form = roll-ExpForm (ExpForm-F.Char n) }) ∙ fold-roll-ExpForm Forms Ink Forms Forms Ink RuleInk dec_layer exp_layer piece_layer (λ d. d.form) (λ e. e.form) rule_layer (ExpForm-F.Char n))
-clause_layers (ExpForm-F.Str w) s = ap (λ (i : Ink). i.clauses) (fold-roll-Exp Forms Ink Forms Forms Ink RuleInk dec_layer exp_layer piece_layer (λ d. d.form) (λ e. e.form) rule_layer (record { span = s; form = roll-ExpForm (ExpForm-F.Str w) }) ∙ fold-roll-ExpForm Forms Ink Forms Forms Ink RuleInk dec_layer exp_layer piece_layer (λ d. d.form) (λ e. e.form) rule_layer (ExpForm-F.Str w))
-clause_layers (ExpForm-F.Name w) s = ap (λ (i : Ink). i.clauses) (fold-roll-Exp Forms Ink Forms Forms Ink RuleInk dec_layer exp_layer piece_layer (λ d. d.form) (λ e. e.form) rule_layer (record { span = s; form = roll-ExpForm (ExpForm-F.Name w) }) ∙ fold-roll-ExpForm Forms Ink Forms Forms Ink RuleInk dec_layer exp_layer piece_layer (λ d. d.form) (λ e. e.form) rule_layer (ExpForm-F.Name w))
-clause_layers ExpForm-F.Unit s = ap (λ (i : Ink). i.clauses) (fold-roll-Exp Forms Ink Forms Forms Ink RuleInk dec_layer exp_layer piece_layer (λ d. d.form) (λ e. e.form) rule_layer (record { span = s; form = roll-ExpForm ExpForm-F.Unit }) ∙ fold-roll-ExpForm Forms Ink Forms Forms Ink RuleInk dec_layer exp_layer piece_layer (λ d. d.form) (λ e. e.form) rule_layer ExpForm-F.Unit)
-clause_layers (ExpForm-F.Tuple es) s = ap (λ (i : Ink). i.clauses) (fold-roll-Exp Forms Ink Forms Forms Ink RuleInk dec_layer exp_layer piece_layer (λ d. d.form) (λ e. e.form) rule_layer (record { span = s; form = roll-ExpForm (ExpForm-F.Tuple es) }) ∙ fold-roll-ExpForm Forms Ink Forms Forms Ink RuleInk dec_layer exp_layer piece_layer (λ d. d.form) (λ e. e.form) rule_layer (ExpForm-F.Tuple es))
-clause_layers (ExpForm-F.List es) s = ap (λ (i : Ink). i.clauses) (fold-roll-Exp Forms Ink Forms Forms Ink RuleInk dec_layer exp_layer piece_layer (λ d. d.form) (λ e. e.form) rule_layer (record { span = s; form = roll-ExpForm (ExpForm-F.List es) }) ∙ fold-roll-ExpForm Forms Ink Forms Forms Ink RuleInk dec_layer exp_layer piece_layer (λ d. d.form) (λ e. e.form) rule_layer (ExpForm-F.List es))
-clause_layers (ExpForm-F.Seq es) s = ap (λ (i : Ink). i.clauses) (fold-roll-Exp Forms Ink Forms Forms Ink RuleInk dec_layer exp_layer piece_layer (λ d. d.form) (λ e. e.form) rule_layer (record { span = s; form = roll-ExpForm (ExpForm-F.Seq es) }) ∙ fold-roll-ExpForm Forms Ink Forms Forms Ink RuleInk dec_layer exp_layer piece_layer (λ d. d.form) (λ e. e.form) rule_layer (ExpForm-F.Seq es))
-clause_layers (ExpForm-F.App x y) s = ap (λ (i : Ink). i.clauses) (fold-roll-Exp Forms Ink Forms Forms Ink RuleInk dec_layer exp_layer piece_layer (λ d. d.form) (λ e. e.form) rule_layer (record { span = s; form = roll-ExpForm (ExpForm-F.App x y) }) ∙ fold-roll-ExpForm Forms Ink Forms Forms Ink RuleInk dec_layer exp_layer piece_layer (λ d. d.form) (λ e. e.form) rule_layer (ExpForm-F.App x y))
-clause_layers (ExpForm-F.Let ds es) s = ap (λ (i : Ink). i.clauses) (fold-roll-Exp Forms Ink Forms Forms Ink RuleInk dec_layer exp_layer piece_layer (λ d. d.form) (λ e. e.form) rule_layer (record { span = s; form = roll-ExpForm (ExpForm-F.Let ds es) }) ∙ fold-roll-ExpForm Forms Ink Forms Forms Ink RuleInk dec_layer exp_layer piece_layer (λ d. d.form) (λ e. e.form) rule_layer (ExpForm-F.Let ds es))
-clause_layers (ExpForm-F.Fn rs) s = ap (λ (i : Ink). i.clauses) (fold-roll-Exp Forms Ink Forms Forms Ink RuleInk dec_layer exp_layer piece_layer (λ d. d.form) (λ e. e.form) rule_layer (record { span = s; form = roll-ExpForm (ExpForm-F.Fn rs) }) ∙ fold-roll-ExpForm Forms Ink Forms Forms Ink RuleInk dec_layer exp_layer piece_layer (λ d. d.form) (λ e. e.form) rule_layer (ExpForm-F.Fn rs)) ∙ first_printed rs
-clause_layers (ExpForm-F.Case x rs) s = ap (λ (i : Ink). i.clauses) (fold-roll-Exp Forms Ink Forms Forms Ink RuleInk dec_layer exp_layer piece_layer (λ d. d.form) (λ e. e.form) rule_layer (record { span = s; form = roll-ExpForm (ExpForm-F.Case x rs) }) ∙ fold-roll-ExpForm Forms Ink Forms Forms Ink RuleInk dec_layer exp_layer piece_layer (λ d. d.form) (λ e. e.form) rule_layer (ExpForm-F.Case x rs)) ∙ clauses_printed rs
-clause_layers (ExpForm-F.Handle x rs) s = ap (λ (i : Ink). i.clauses) (fold-roll-Exp Forms Ink Forms Forms Ink RuleInk dec_layer exp_layer piece_layer (λ d. d.form) (λ e. e.form) rule_layer (record { span = s; form = roll-ExpForm (ExpForm-F.Handle x rs) }) ∙ fold-roll-ExpForm Forms Ink Forms Forms Ink RuleInk dec_layer exp_layer piece_layer (λ d. d.form) (λ e. e.form) rule_layer (ExpForm-F.Handle x rs))
-clause_layers (ExpForm-F.Raise x) s = ap (λ (i : Ink). i.clauses) (fold-roll-Exp Forms Ink Forms Forms Ink RuleInk dec_layer exp_layer piece_layer (λ d. d.form) (λ e. e.form) rule_layer (record { span = s; form = roll-ExpForm (ExpForm-F.Raise x) }) ∙ fold-roll-ExpForm Forms Ink Forms Forms Ink RuleInk dec_layer exp_layer piece_layer (λ d. d.form) (λ e. e.form) rule_layer (ExpForm-F.Raise x))
-clause_layers (ExpForm-F.If x y z) s = ap (λ (i : Ink). i.clauses) (fold-roll-Exp Forms Ink Forms Forms Ink RuleInk dec_layer exp_layer piece_layer (λ d. d.form) (λ e. e.form) rule_layer (record { span = s; form = roll-ExpForm (ExpForm-F.If x y z) }) ∙ fold-roll-ExpForm Forms Ink Forms Forms Ink RuleInk dec_layer exp_layer piece_layer (λ d. d.form) (λ e. e.form) rule_layer (ExpForm-F.If x y z))
-clause_layers (ExpForm-F.Both x y) s = ap (λ (i : Ink). i.clauses) (fold-roll-Exp Forms Ink Forms Forms Ink RuleInk dec_layer exp_layer piece_layer (λ d. d.form) (λ e. e.form) rule_layer (record { span = s; form = roll-ExpForm (ExpForm-F.Both x y) }) ∙ fold-roll-ExpForm Forms Ink Forms Forms Ink RuleInk dec_layer exp_layer piece_layer (λ d. d.form) (λ e. e.form) rule_layer (ExpForm-F.Both x y))
-clause_layers (ExpForm-F.Either x y) s = ap (λ (i : Ink). i.clauses) (fold-roll-Exp Forms Ink Forms Forms Ink RuleInk dec_layer exp_layer piece_layer (λ d. d.form) (λ e. e.form) rule_layer (record { span = s; form = roll-ExpForm (ExpForm-F.Either x y) }) ∙ fold-roll-ExpForm Forms Ink Forms Forms Ink RuleInk dec_layer exp_layer piece_layer (λ d. d.form) (λ e. e.form) rule_layer (ExpForm-F.Either x y))
-clause_layers (ExpForm-F.Quote ps) s = ap (λ (i : Ink). i.clauses) (fold-roll-Exp Forms Ink Forms Forms Ink RuleInk dec_layer exp_layer piece_layer (λ d. d.form) (λ e. e.form) rule_layer (record { span = s; form = roll-ExpForm (ExpForm-F.Quote ps) }) ∙ fold-roll-ExpForm Forms Ink Forms Forms Ink RuleInk dec_layer exp_layer piece_layer (λ d. d.form) (λ e. e.form) rule_layer (ExpForm-F.Quote ps))
-clause_layers (ExpForm-F.Typed x t) s = ap (λ (i : Ink). i.clauses) (fold-roll-Exp Forms Ink Forms Forms Ink RuleInk dec_layer exp_layer piece_layer (λ d. d.form) (λ e. e.form) rule_layer (record { span = s; form = roll-ExpForm (ExpForm-F.Typed x t) }) ∙ fold-roll-ExpForm Forms Ink Forms Forms Ink RuleInk dec_layer exp_layer piece_layer (λ d. d.form) (λ e. e.form) rule_layer (ExpForm-F.Typed x t))
+clause_layers : (l : ExpLayer) → (exp_layer (inked l)).clauses ≡ clauses_in l
+clause_layers (ExpForm-F.Case x rs) = clauses_printed rs
+clause_layers (ExpForm-F.Fn rs) = first_printed rs
+clause_layers _ = refl
 
 pub clauses_opened : (x : Exp) → (exp_ink x).clauses ≡ clauses_in (form_of_exp x)
-clauses_opened x = ap (λ y. (exp_ink y).clauses) (sym (roll-out-Exp x)) ∙ (ap (λ y. (exp_ink (exp_at (out-Exp x).span y)).clauses) (sym (roll-out-ExpForm (out-Exp x).form)) ∙ clause_layers (form_of_exp x) (out-Exp x).span)
+clauses_opened x = ap (λ (i : Ink). i.clauses) (ink_opened x) ∙ clause_layers (form_of_exp x)
 
-pub several_printed : (name : List ℕ) (rs : List Rule) → parted (codes "|") (several_clause name) (map clause_in rs) ≡ parted (codes "|") (several_text name) rs
-several_printed name rs = parted_map (codes "|") (several_clause name) clause_in rs
+pub several_printed : (name : List ℕ) (rs : List Rule) → alternatives (several_clause name) (map clause_in rs) ≡ alternatives (several_text name) rs
+several_printed name rs = alternatives_map (several_clause name) clause_in rs
 
-lone_layers : (l : ExpLayer) (s : Span) → (exp_ink (exp_at s (roll-ExpForm l))).lone ≡ lone_in l
-lone_layers (ExpForm-F.Int n) s = ap (λ (i : Ink). i.lone) (fold-roll-Exp Forms Ink Forms Forms Ink RuleInk dec_layer exp_layer piece_layer (λ d. d.form) (λ e. e.form) rule_layer (record { span = s; form = roll-ExpForm (ExpForm-F.Int n) }) ∙ fold-roll-ExpForm Forms Ink Forms Forms Ink RuleInk dec_layer exp_layer piece_layer (λ d. d.form) (λ e. e.form) rule_layer (ExpForm-F.Int n))
-lone_layers (ExpForm-F.Char n) s = ap (λ (i : Ink). i.lone) (fold-roll-Exp Forms Ink Forms Forms Ink RuleInk dec_layer exp_layer piece_layer (λ d. d.form) (λ e. e.form) rule_layer (record { span = s; form = roll-ExpForm (ExpForm-F.Char n) }) ∙ fold-roll-ExpForm Forms Ink Forms Forms Ink RuleInk dec_layer exp_layer piece_layer (λ d. d.form) (λ e. e.form) rule_layer (ExpForm-F.Char n))
-lone_layers (ExpForm-F.Str w) s = ap (λ (i : Ink). i.lone) (fold-roll-Exp Forms Ink Forms Forms Ink RuleInk dec_layer exp_layer piece_layer (λ d. d.form) (λ e. e.form) rule_layer (record { span = s; form = roll-ExpForm (ExpForm-F.Str w) }) ∙ fold-roll-ExpForm Forms Ink Forms Forms Ink RuleInk dec_layer exp_layer piece_layer (λ d. d.form) (λ e. e.form) rule_layer (ExpForm-F.Str w))
-lone_layers (ExpForm-F.Name w) s = ap (λ (i : Ink). i.lone) (fold-roll-Exp Forms Ink Forms Forms Ink RuleInk dec_layer exp_layer piece_layer (λ d. d.form) (λ e. e.form) rule_layer (record { span = s; form = roll-ExpForm (ExpForm-F.Name w) }) ∙ fold-roll-ExpForm Forms Ink Forms Forms Ink RuleInk dec_layer exp_layer piece_layer (λ d. d.form) (λ e. e.form) rule_layer (ExpForm-F.Name w))
-lone_layers ExpForm-F.Unit s = ap (λ (i : Ink). i.lone) (fold-roll-Exp Forms Ink Forms Forms Ink RuleInk dec_layer exp_layer piece_layer (λ d. d.form) (λ e. e.form) rule_layer (record { span = s; form = roll-ExpForm ExpForm-F.Unit }) ∙ fold-roll-ExpForm Forms Ink Forms Forms Ink RuleInk dec_layer exp_layer piece_layer (λ d. d.form) (λ e. e.form) rule_layer ExpForm-F.Unit)
-lone_layers (ExpForm-F.Tuple es) s = ap (λ (i : Ink). i.lone) (fold-roll-Exp Forms Ink Forms Forms Ink RuleInk dec_layer exp_layer piece_layer (λ d. d.form) (λ e. e.form) rule_layer (record { span = s; form = roll-ExpForm (ExpForm-F.Tuple es) }) ∙ fold-roll-ExpForm Forms Ink Forms Forms Ink RuleInk dec_layer exp_layer piece_layer (λ d. d.form) (λ e. e.form) rule_layer (ExpForm-F.Tuple es))
-lone_layers (ExpForm-F.List es) s = ap (λ (i : Ink). i.lone) (fold-roll-Exp Forms Ink Forms Forms Ink RuleInk dec_layer exp_layer piece_layer (λ d. d.form) (λ e. e.form) rule_layer (record { span = s; form = roll-ExpForm (ExpForm-F.List es) }) ∙ fold-roll-ExpForm Forms Ink Forms Forms Ink RuleInk dec_layer exp_layer piece_layer (λ d. d.form) (λ e. e.form) rule_layer (ExpForm-F.List es))
-lone_layers (ExpForm-F.Seq es) s = ap (λ (i : Ink). i.lone) (fold-roll-Exp Forms Ink Forms Forms Ink RuleInk dec_layer exp_layer piece_layer (λ d. d.form) (λ e. e.form) rule_layer (record { span = s; form = roll-ExpForm (ExpForm-F.Seq es) }) ∙ fold-roll-ExpForm Forms Ink Forms Forms Ink RuleInk dec_layer exp_layer piece_layer (λ d. d.form) (λ e. e.form) rule_layer (ExpForm-F.Seq es))
-lone_layers (ExpForm-F.App x y) s = ap (λ (i : Ink). i.lone) (fold-roll-Exp Forms Ink Forms Forms Ink RuleInk dec_layer exp_layer piece_layer (λ d. d.form) (λ e. e.form) rule_layer (record { span = s; form = roll-ExpForm (ExpForm-F.App x y) }) ∙ fold-roll-ExpForm Forms Ink Forms Forms Ink RuleInk dec_layer exp_layer piece_layer (λ d. d.form) (λ e. e.form) rule_layer (ExpForm-F.App x y))
-lone_layers (ExpForm-F.Let ds es) s = ap (λ (i : Ink). i.lone) (fold-roll-Exp Forms Ink Forms Forms Ink RuleInk dec_layer exp_layer piece_layer (λ d. d.form) (λ e. e.form) rule_layer (record { span = s; form = roll-ExpForm (ExpForm-F.Let ds es) }) ∙ fold-roll-ExpForm Forms Ink Forms Forms Ink RuleInk dec_layer exp_layer piece_layer (λ d. d.form) (λ e. e.form) rule_layer (ExpForm-F.Let ds es))
-lone_layers (ExpForm-F.Fn rs) s = ap (λ (i : Ink). i.lone) (fold-roll-Exp Forms Ink Forms Forms Ink RuleInk dec_layer exp_layer piece_layer (λ d. d.form) (λ e. e.form) rule_layer (record { span = s; form = roll-ExpForm (ExpForm-F.Fn rs) }) ∙ fold-roll-ExpForm Forms Ink Forms Forms Ink RuleInk dec_layer exp_layer piece_layer (λ d. d.form) (λ e. e.form) rule_layer (ExpForm-F.Fn rs))
-lone_layers (ExpForm-F.Case x rs) s = ap (λ (i : Ink). i.lone) (fold-roll-Exp Forms Ink Forms Forms Ink RuleInk dec_layer exp_layer piece_layer (λ d. d.form) (λ e. e.form) rule_layer (record { span = s; form = roll-ExpForm (ExpForm-F.Case x rs) }) ∙ fold-roll-ExpForm Forms Ink Forms Forms Ink RuleInk dec_layer exp_layer piece_layer (λ d. d.form) (λ e. e.form) rule_layer (ExpForm-F.Case x rs))
-lone_layers (ExpForm-F.Handle x rs) s = ap (λ (i : Ink). i.lone) (fold-roll-Exp Forms Ink Forms Forms Ink RuleInk dec_layer exp_layer piece_layer (λ d. d.form) (λ e. e.form) rule_layer (record { span = s; form = roll-ExpForm (ExpForm-F.Handle x rs) }) ∙ fold-roll-ExpForm Forms Ink Forms Forms Ink RuleInk dec_layer exp_layer piece_layer (λ d. d.form) (λ e. e.form) rule_layer (ExpForm-F.Handle x rs))
-lone_layers (ExpForm-F.Raise x) s = ap (λ (i : Ink). i.lone) (fold-roll-Exp Forms Ink Forms Forms Ink RuleInk dec_layer exp_layer piece_layer (λ d. d.form) (λ e. e.form) rule_layer (record { span = s; form = roll-ExpForm (ExpForm-F.Raise x) }) ∙ fold-roll-ExpForm Forms Ink Forms Forms Ink RuleInk dec_layer exp_layer piece_layer (λ d. d.form) (λ e. e.form) rule_layer (ExpForm-F.Raise x))
-lone_layers (ExpForm-F.If x y z) s = ap (λ (i : Ink). i.lone) (fold-roll-Exp Forms Ink Forms Forms Ink RuleInk dec_layer exp_layer piece_layer (λ d. d.form) (λ e. e.form) rule_layer (record { span = s; form = roll-ExpForm (ExpForm-F.If x y z) }) ∙ fold-roll-ExpForm Forms Ink Forms Forms Ink RuleInk dec_layer exp_layer piece_layer (λ d. d.form) (λ e. e.form) rule_layer (ExpForm-F.If x y z))
-lone_layers (ExpForm-F.Both x y) s = ap (λ (i : Ink). i.lone) (fold-roll-Exp Forms Ink Forms Forms Ink RuleInk dec_layer exp_layer piece_layer (λ d. d.form) (λ e. e.form) rule_layer (record { span = s; form = roll-ExpForm (ExpForm-F.Both x y) }) ∙ fold-roll-ExpForm Forms Ink Forms Forms Ink RuleInk dec_layer exp_layer piece_layer (λ d. d.form) (λ e. e.form) rule_layer (ExpForm-F.Both x y))
-lone_layers (ExpForm-F.Either x y) s = ap (λ (i : Ink). i.lone) (fold-roll-Exp Forms Ink Forms Forms Ink RuleInk dec_layer exp_layer piece_layer (λ d. d.form) (λ e. e.form) rule_layer (record { span = s; form = roll-ExpForm (ExpForm-F.Either x y) }) ∙ fold-roll-ExpForm Forms Ink Forms Forms Ink RuleInk dec_layer exp_layer piece_layer (λ d. d.form) (λ e. e.form) rule_layer (ExpForm-F.Either x y))
-lone_layers (ExpForm-F.Quote ps) s = ap (λ (i : Ink). i.lone) (fold-roll-Exp Forms Ink Forms Forms Ink RuleInk dec_layer exp_layer piece_layer (λ d. d.form) (λ e. e.form) rule_layer (record { span = s; form = roll-ExpForm (ExpForm-F.Quote ps) }) ∙ fold-roll-ExpForm Forms Ink Forms Forms Ink RuleInk dec_layer exp_layer piece_layer (λ d. d.form) (λ e. e.form) rule_layer (ExpForm-F.Quote ps))
-lone_layers (ExpForm-F.Typed x t) s = ap (λ (i : Ink). i.lone) (fold-roll-Exp Forms Ink Forms Forms Ink RuleInk dec_layer exp_layer piece_layer (λ d. d.form) (λ e. e.form) rule_layer (record { span = s; form = roll-ExpForm (ExpForm-F.Typed x t) }) ∙ fold-roll-ExpForm Forms Ink Forms Forms Ink RuleInk dec_layer exp_layer piece_layer (λ d. d.form) (λ e. e.form) rule_layer (ExpForm-F.Typed x t))
+lone_layers : (l : ExpLayer) → (exp_layer (inked l)).lone ≡ lone_in l
+lone_layers (ExpForm-F.Name w) = refl
+lone_layers _ = refl
 
 pub lone_opened : (x : Exp) → (exp_ink x).lone ≡ lone_in (form_of_exp x)
-lone_opened x = ap (λ y. (exp_ink y).lone) (sym (roll-out-Exp x)) ∙ (ap (λ y. (exp_ink (exp_at (out-Exp x).span y)).lone) (sym (roll-out-ExpForm (out-Exp x).form)) ∙ lone_layers (form_of_exp x) (out-Exp x).span)
+lone_opened x = ap (λ (i : Ink). i.lone) (ink_opened x) ∙ lone_layers (form_of_exp x)
+
+operator_layers : (l : ExpLayer) → (exp_layer (inked l)).operator ≡ operator_in l
+operator_layers (ExpForm-F.Name w) = refl
+operator_layers _ = refl
+
+pub operator_opened : (x : Exp) → (exp_ink x).operator ≡ operator_in (form_of_exp x)
+operator_opened x = ap (λ (i : Ink). i.operator) (ink_opened x) ∙ operator_layers (form_of_exp x)
+
+parts_printed : (es : List Exp) → map (λ (i : Ink). i.part) (map exp_ink es) ≡ map exp_part es
+parts_printed [] = refl
+parts_printed (e ∷ es) = ap (λ ps. exp_part e ∷ ps) (parts_printed es)
+
+member_layers : (l : ExpLayer) → (exp_layer (inked l)).members ≡ map exp_part (members_in l)
+member_layers (ExpForm-F.Tuple es) = parts_printed es
+member_layers _ = refl
+
+pub members_opened : (x : Exp) → (exp_ink x).members ≡ map exp_part (members_in (form_of_exp x))
+members_opened x = ap (λ (i : Ink). i.members) (ink_opened x) ∙ member_layers (form_of_exp x)
+
+-- the part of an expression, by its form
+abbrev pub part_in : ExpLayer → Part
+part_in l = record { level = level_in l; opens = opens_in l; forms = exp_text l }
+
+app_shown : (o : Option (ℕ × TokenForm)) (es : List Exp) (x y : Exp) → app_part o (map exp_part es) (exp_part x) (exp_part y) ≡ closed (app_level o es) (app_text o es x y)
+app_shown None es x y = refl
+app_shown (Some o) [] x y = refl
+app_shown (Some o) (u ∷ []) x y = refl
+app_shown (Some o) (u ∷ v ∷ []) x y = refl
+app_shown (Some o) (u ∷ v ∷ w ∷ ws) x y = refl
+
+part_layers : (l : ExpLayer) → (exp_layer (inked l)).part ≡ part_in l
+part_layers (ExpForm-F.Tuple es) = ap (λ z. atomic (in_parens z)) (exps_printed (codes ",") es)
+part_layers (ExpForm-F.List es) = ap (λ z. atomic ((f.Mark (codes "[") ∷ z) ++ f.Mark (codes "]") ∷ [])) (exps_printed (codes ",") es)
+part_layers (ExpForm-F.Seq es) = ap (λ z. atomic (in_parens z)) (exps_printed (codes ";") es)
+part_layers (ExpForm-F.App x y) = ap₂ (λ o ps. app_part o ps (exp_part x) (exp_part y)) (operator_opened x) (members_opened y) ∙ app_shown (operator_in (form_of_exp x)) (members_in (form_of_exp y)) x y
+part_layers (ExpForm-F.Let ds es) = ap₂ (λ u v. atomic ((f.Mark (codes "let") ∷ u) ++ f.Mark (codes "in") ∷ v ++ f.Mark (codes "end") ∷ [])) (flat_map_map (λ d. d) dec_forms ds) (exps_printed (codes ";") es)
+part_layers (ExpForm-F.Fn rs) = ap (λ z. whole true (f.Mark (codes "fn") ∷ z)) (rules_printed rs)
+part_layers (ExpForm-F.Case x rs) = ap (λ z. whole true (f.Mark (codes "case") ∷ exp_forms x ++ f.Mark (codes "of") ∷ z)) (rules_printed rs)
+part_layers (ExpForm-F.Handle x rs) = ap (λ z. whole true (put_text 1 x ++ f.Mark (codes "handle") ∷ z)) (rules_printed rs)
+part_layers (ExpForm-F.Quote ps) = ap (λ z. atomic ((f.QuoteFrom ∷ z) ++ f.QuoteTo ∷ [])) (flat_map_map (λ p. p) piece_forms ps)
+part_layers _ = refl
+
+pub part_opened : (x : Exp) → exp_part x ≡ part_in (form_of_exp x)
+part_opened x = ap (λ (i : Ink). i.part) (ink_opened x) ∙ part_layers (form_of_exp x)
+
+pub level_opened : (x : Exp) → (exp_part x).level ≡ level_in (form_of_exp x)
+level_opened x = ap (λ (p : Part). p.level) (part_opened x)
+
+pub opens_opened : (x : Exp) → (exp_part x).opens ≡ opens_in (form_of_exp x)
+opens_opened x = ap (λ (p : Part). p.opens) (part_opened x)
+
+pub exp_opened : (x : Exp) → exp_forms x ≡ exp_text (form_of_exp x)
+exp_opened x = ap (λ (p : Part). p.forms) (part_opened x)
 
 -- pieces
 piece_layers : (l : Piece-F DecForm ExpForm Piece Dec Exp Rule) → piece_forms (roll-Piece l) ≡ piece_text l
@@ -168,10 +265,10 @@ function_list : (name : List ℕ) (rs : List Rule) → function_forms (name, map
 function_list name [] = refl
 function_list name (r ∷ rs) =
     ap (λ (q : RuleInk). function_forms (name, q ∷ map rule_ink rs)) (rule_is r)
-    ∙ ap (cond (is_number (form_of_pat (out-Rule r).pat)) (parted (codes "|") (several_clause name) (exp_ink (out-Rule r).body).clauses))
-    (ap (λ (q : RuleInk). parted (codes "|") (λ r. one_clause name (clause_of r)) (q ∷ map rule_ink rs)) (sym (rule_is r))
-    ∙ (parted_map (codes "|") (λ r. one_clause name (clause_of r)) rule_ink (r ∷ rs)
-    ∙ parted_same (codes "|") (λ r. one_clause name (clause_of (rule_ink r))) (clause_text name) (λ r. ap (λ q. one_clause name (clause_of q)) (rule_is r)) (r ∷ rs)))
+    ∙ ap (cond (is_number (form_of_pat (out-Rule r).pat)) (alternatives (several_clause name) (exp_ink (out-Rule r).body).clauses))
+    (ap (λ (q : RuleInk). alternatives (λ last r. one_clause name last (clause_of r)) (q ∷ map rule_ink rs)) (sym (rule_is r))
+    ∙ (alternatives_map (λ last r. one_clause name last (clause_of r)) rule_ink (r ∷ rs)
+    ∙ alternatives_same (λ last r. one_clause name last (clause_of (rule_ink r))) (clause_text name) (λ last r. ap (λ q. one_clause name last (clause_of q)) (rule_is r)) (r ∷ rs)))
 
 functions_list : (fs : List (List ℕ × List Rule)) → parted (codes "and") function_forms (map (λ g. (g.0, map rule_ink g.1)) fs) ≡ parted (codes "and") function_text fs
 functions_list fs = parted_map (codes "and") function_forms (λ (g : List ℕ × List Rule). (g.0, map rule_ink g.1)) fs ∙ parted_same (codes "and") (λ (g : List ℕ × List Rule). function_forms (g.0, map rule_ink g.1)) function_text (λ g. function_list g.0 g.1) fs

@@ -26,10 +26,10 @@ use Rattle.print_laws.proofs.Bearing.{At, none, both, bears}
 use Rattle.print_laws.specs.ReadBack.{IsFine, ExpressionsReadBack, TypesReadBack, PatternsReadBack, DeclarationsReadBack, ProgramsReadBack}
 use Rattle.print_laws.proofs.Made.{form-Any, form-Int, form-Char, form-Str, form-Unit, form-Name, form-Tuple, form-List, form-Con, form-Typed, ink-rule}
 use Rattle.print_laws.proofs.Claims.{Of, row_at, Some_of, some_each, TyClaim, PatClaim, ExpClaim, each_map}
-use Rattle.print_laws.proofs.TypeClaims.{whole_ty, var_claim, con_claim, con_one_claim, con_several_claim, arrow_claim}
+use Rattle.print_laws.proofs.TypeClaims.{var_claim, con_claim, con_one_claim, con_several_claim, arrow_claim}
 use Rattle.print_laws.proofs.TypeClaims as types
-use Rattle.print_laws.proofs.PatternClaims.{whole_pat, any_claim, pat_int_claim, pat_char_claim, pat_str_claim, pat_unit_claim, pat_name_claim, pat_tuple_claim, pat_no_list_claim, pat_list_claim, pat_con_claim, pat_typed_claim}
-use Rattle.print_laws.proofs.ExpClaims.{whole_exp, int_claim, char_claim, str_claim, name_claim, unit_claim, tuple_claim, seq_claim, no_list_claim, list_claim, app_claim, both_claim, either_claim, typed_claim, raise_claim, if_claim, RuleClaim, fn_claim, case_claim, handle_claim}
+use Rattle.print_laws.proofs.PatternClaims.{any_claim, pat_int_claim, pat_char_claim, pat_str_claim, pat_unit_claim, pat_name_claim, pat_tuple_claim, pat_no_list_claim, pat_list_claim, pat_con_claim, pat_typed_claim}
+use Rattle.print_laws.proofs.ExpClaims.{int_claim, char_claim, str_claim, name_claim, unit_claim, tuple_claim, seq_claim, no_list_claim, list_claim, app_claim, both_claim, either_claim, typed_claim, raise_claim, if_claim, RuleClaim, fn_claim, case_claim, handle_claim}
 use Rattle.print_laws.proofs.DecClaims.{QuotedAt, last_quoted, more_quoted, quote_claim, DecClaim, let_claim, local_claim, BindClaim, val_claim}
 use Rattle.print_laws.proofs.Nested.{nil_front, nil_back, deep_datas}
 use Rattle.print_laws.proofs.TypeDecClaims.{AbbrevClaim, abbrev_claim, ConClaim, DataClaim, data_claim, exn_claim}
@@ -366,15 +366,15 @@ reads (items_after_semicolon _ _ d0) h g = reads d0 h.1 g
 -- an expression of tokens whose names begin with no digit, from tokens that bear what is printed of it
 pub expressions_read_back : ExpressionsReadBack
 expressions_read_back o ts us x h d e =
-    let r = (reads d h refl).0 us (bears us (exp_forms x) e) in (r.0, whole_exp r.1, r.2)
+    let r = (reads d h refl).0 us (bears us (exp_forms x) e) in (r.0, r.1.anywhere, r.2)
 
 pub types_read_back : TypesReadBack
 types_read_back v ts us x h d e =
-    let r = reads d h refl us (bears us (ty_forms x) e) in (r.0, whole_ty r.1, r.2)
+    let r = reads d h refl us (bears us (ty_forms x) e) in (r.0, r.1.anywhere, r.2)
 
 pub patterns_read_back : PatternsReadBack
 patterns_read_back ts us x h d e =
-    let r = (reads d h refl).0 us (bears us (pat_forms x) e) in (r.0, whole_pat r.1, r.2)
+    let r = (reads d h refl).0.0 us (bears us (pat_forms x) e) in (r.0, r.1.anywhere, r.2)
 
 pub declarations_read_back : DeclarationsReadBack
 declarations_read_back i ts us x h d e = reads d h refl us (bears us (dec_forms x) e)

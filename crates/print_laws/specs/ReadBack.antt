@@ -11,18 +11,19 @@ use Rattle.sml_syntax.specs.Tokens.{HasTokens}
 use Rattle.sml_syntax.specs.Programs.{IsProgram, Each, DecFits}
 use Rattle.sml_syntax.specs.Grammar.{Is, expr, exp_tree, ty, ty_tree, pat, pat_tree, dec, dec_tree}
 use Rattle.print_laws.specs.SameTree.{Same, SameTree}
-use Rattle.print_laws.specs.Printing.{printed, exp_forms, ty_forms, pat_forms, dec_forms, program_forms, begins_number}
+use Rattle.print_laws.specs.Printing.{printed, exp_part, exp_forms, ty_forms, pat_forms, dec_forms, program_forms, begins_number}
 
 -- a name that doesn't begin with a digit, as no token of a text has one
 abbrev pub IsFine : Token → Type 0
 IsFine t = (name : List ℕ) → (t.form ≡ f.Name name) ⊎ (t.form ≡ f.Long name) → begins_number name ≡ false
 
 -- Where an expression is that of some tokens, all tokens of the forms that are printed of it are of an expression too, the same
--- one, spans aside. It holds declarations of values; the others can't stand in an expression.
+-- one, spans aside, and a match is open at its end where one is at the end of what is printed. It holds declarations of values; the
+-- others can't stand in an expression.
 abbrev pub ExpressionsReadBack : Type 0
 ExpressionsReadBack =
     (open_end : Bool) (tokens again : List Token) (x : Exp) → Each IsFine tokens → Is (expr open_end) tokens (exp_tree x) []
-    → map (λ (t : Token). t.form) again ≡ exp_forms x → (y : Exp) × Is (expr false) again (exp_tree y) [] × Same (exp_tree x) (exp_tree y)
+    → map (λ (t : Token). t.form) again ≡ exp_forms x → (y : Exp) × Is (expr (exp_part x).opens) again (exp_tree y) [] × Same (exp_tree x) (exp_tree y)
 
 -- the same of types, of patterns, and of declarations: those of values inside `let` and `local`, and all of them at the top level
 abbrev pub TypesReadBack : Type 0

@@ -23,29 +23,6 @@ use Rattle.print_laws.specs.Printing.{in_parens, parted, ty_forms, head_forms, p
 use Rattle.print_laws.specs.Opened.{ty_text, con_text, starred_text, pat_text, exp_text, match_text, let_text, quote_text, dec_text, bind_text, function_text, local_text, clauses_in, several_text}
 use Rattle.print_laws.proofs.Opened.{ty_opened, pat_opened, exp_opened, dec_opened, clauses_opened, several_printed}
 
--- types
-pub ty_con : (x : Ty) (name : List ℕ) (ts : List Ty) → (out-Ty x).form ≡ t.Con name ts → ty_forms x ≡ con_text name ts
-ty_con x name ts h = ty_opened x ∙ ap ty_text (ap out-TyForm h ∙ ap out-TyForm (sym (t.rolls-Con name ts)) ∙ out-roll-TyForm (TyForm-F.Con name ts))
-
-pub ty_tuple : (x : Ty) (ts : List Ty) → (out-Ty x).form ≡ t.Tuple ts → ty_forms x ≡ in_parens (starred_text ts)
-ty_tuple x ts h = ty_opened x ∙ ap ty_text (ap out-TyForm h ∙ ap out-TyForm (sym (t.rolls-Tuple ts)) ∙ out-roll-TyForm (TyForm-F.Tuple ts))
-
-pub ty_arrow : (x : Ty) (from : Ty) (to : Ty) → (out-Ty x).form ≡ t.Arrow from to → ty_forms x ≡ in_parens (ty_forms from ++ f.Mark (codes "->") ∷ ty_forms to)
-ty_arrow x from to h = ty_opened x ∙ ap ty_text (ap out-TyForm h ∙ ap out-TyForm (sym (t.rolls-Arrow from to)) ∙ out-roll-TyForm (TyForm-F.Arrow from to))
-
--- patterns
-pub pat_tuple : (x : Pat) (ps : List Pat) → (out-Pat x).form ≡ p.Tuple ps → pat_forms x ≡ in_parens (parted (codes ",") pat_forms ps)
-pat_tuple x ps h = pat_opened x ∙ ap pat_text (ap out-PatForm h ∙ ap out-PatForm (sym (p.rolls-Tuple ps)) ∙ out-roll-PatForm (PatForm-F.Tuple ps))
-
-pub pat_list : (x : Pat) (ps : List Pat) → (out-Pat x).form ≡ p.List ps → pat_forms x ≡ (f.Mark (codes "[") ∷ parted (codes ",") pat_forms ps) ++ f.Mark (codes "]") ∷ []
-pat_list x ps h = pat_opened x ∙ ap pat_text (ap out-PatForm h ∙ ap out-PatForm (sym (p.rolls-List ps)) ∙ out-roll-PatForm (PatForm-F.List ps))
-
-pub pat_con : (x : Pat) (name : List ℕ) (q : Pat) → (out-Pat x).form ≡ p.Con name q → pat_forms x ≡ in_parens (head_forms name ++ pat_forms q)
-pat_con x name q h = pat_opened x ∙ ap pat_text (ap out-PatForm h ∙ ap out-PatForm (sym (p.rolls-Con name q)) ∙ out-roll-PatForm (PatForm-F.Con name q))
-
-pub pat_typed : (x : Pat) (q : Pat) (ty : Ty) → (out-Pat x).form ≡ p.Typed q ty → pat_forms x ≡ in_parens (pat_forms q ++ f.Mark (codes ":") ∷ ty_forms ty)
-pat_typed x q ty h = pat_opened x ∙ ap pat_text (ap out-PatForm h ∙ ap out-PatForm (sym (p.rolls-Typed q ty)) ∙ out-roll-PatForm (PatForm-F.Typed q ty))
-
 -- expressions
 pub exp_tuple : (x : Exp) (es : List Exp) → (out-Exp x).form ≡ e.Tuple es → exp_forms x ≡ in_parens (parted (codes ",") exp_forms es)
 exp_tuple x es h = exp_opened x ∙ ap exp_text (ap out-ExpForm h ∙ ap out-ExpForm (sym (e.rolls-Tuple es)) ∙ out-roll-ExpForm (ExpForm-F.Tuple es))

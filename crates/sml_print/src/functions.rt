@@ -5,7 +5,7 @@ ghost use Rattle.print_laws.specs.Opened.{clause_text, several_text, function_by
 
 use crate::expressions::print_exp;
 use crate::forms::Forms;
-use crate::patterns::{is_number, print_parts, print_pat};
+use crate::patterns::{is_number, print_parts, put_pat};
 use sml_syntax::{Exp, ExpForm, Listed, NoMemory, Rule, Text};
 
 /// The clauses of a function. Where it has the derived form of several patterns, they are those of the `case` inside.
@@ -37,7 +37,7 @@ fn print_clause(forms: &mut Forms, name: &Text, rule: &Rule) -> Result<(), NoMem
     ensures { OnOk result (forms.new ≡ forms.old ++ clause_text name.now rule.now) }
 {
     forms.head(name)?;
-    print_pat(forms, &rule.pat)?;
+    put_pat(forms, 3, &rule.pat)?;
     forms.mark(b"=")?;
     print_exp(forms, &rule.body)?;
     Ok(())
