@@ -1,7 +1,7 @@
 // Tokens in a row.
 ghost use Rattle.std.specs.Prelude.{◌≡◌, ◌++◌, ◌∷◌, [], IfOk, OnOk, codes};
 ghost use Rattle.sml_syntax.specs.declared.token.TokenForm.TheVariants as f;
-ghost use Rattle.print_laws.specs.Printing.{head_forms, plain_forms, name_forms, type_name};
+ghost use Rattle.print_laws.specs.Printing.{head_forms, plain_forms, name_forms, infix_word, type_name};
 
 use crate::names::{has_dot, infix_level};
 use sml_syntax::{NoMemory, Text, TokenForm};
@@ -157,5 +157,16 @@ impl Forms {
             return self.mark(b"=");
         }
         self.head(name)
+    }
+
+    /// An infix name between its operands.
+    #[tactic(auto, unfolding(print_laws::specs::Printing::infix_word))]
+    pub(crate) fn word(&mut self, name: &Text) -> Result<(), NoMemory>
+        ensures { OnOk result (self.new ≡ self.old ++ infix_word name.now ∷ []) }
+    {
+        if name.as_bytes() == b"=".as_slice() {
+            return self.mark(b"=");
+        }
+        self.short(name.as_bytes())
     }
 }

@@ -1,7 +1,8 @@
 //! The printer: the text of a tree.
 //!
 //! - `forms`: tokens in a row, and the names, lists and marks among them.
-//! - `types`, `patterns`, `expressions`, `functions`, `declarations`: the tokens of each kind of tree.
+//! - `types`, `patterns`, `expressions`, `operations`, `functions`, `declarations`: the tokens of each kind of tree.
+//! - `places`: where parentheses are wanted.
 //! - `spelling`: the bytes of a token.
 #![tactic(auto)]
 
@@ -15,7 +16,9 @@ mod expressions;
 mod forms;
 mod functions;
 mod names;
+mod operations;
 mod patterns;
+mod places;
 mod quotations;
 mod rules;
 mod spelling;

@@ -5,6 +5,7 @@ ghost use Rattle.sml_syntax.specs.InfixNames.{infix_level, symbol_level, word_le
 ghost use Rattle.print_laws.specs.Printing as printing;
 ghost use Rattle.print_laws.specs.Printing.{exp_ink};
 ghost use Rattle.print_laws.specs.Spelled.{is_among_texts};
+ghost use Rattle.sml_print.specs.Places as places;
 
 use sml_syntax::{Exp, ExpForm, Text};
 
@@ -87,6 +88,16 @@ pub(crate) fn has_dot(name: &Text) -> bool
     ensures { result ≡ printing.has_dot name.now }
 {
     name.as_bytes().iter().any(|b| *b == b'.')
+}
+
+/// The level of an infix name of one part.
+pub(crate) fn operator_level(name: &Text) -> Option<u8>
+    ensures { result ≡ places.operator_level name.now }
+{
+    if has_dot(name) {
+        return None;
+    }
+    infix_level(name.as_bytes())
 }
 
 /// The level of an infix name; any other name has none.

@@ -2,7 +2,7 @@
 ghost use Rattle.std.specs.Prelude.{◌≡◌, ◌++◌, OnOk};
 ghost use Rattle.print_laws.specs.Opened.{rule_text, match_text};
 
-use crate::expressions::print_exp;
+use crate::expressions::print_body;
 use crate::forms::Forms;
 use crate::patterns::print_pat;
 use sml_syntax::{Listed, NoMemory, Rule};
@@ -12,23 +12,21 @@ use sml_syntax::{Listed, NoMemory, Rule};
 pub(crate) fn print_rules(forms: &mut Forms, rules: &Listed<Rule>) -> Result<(), NoMemory>
     ensures { OnOk result (forms.new ≡ forms.old ++ match_text rules.now) }
 {
-    let [first, more @ ..] = rules.as_slice() else {
+    let [before @ .., last] = rules.as_slice() else {
         return Ok(());
     };
-    print_rule(forms, first)?;
-    for rule in more {
+    for rule in before {
+        print_rule(forms, false, rule)?;
         forms.mark(b"|")?;
-        print_rule(forms, rule)?;
     }
-    Ok(())
+    print_rule(forms, true, last)
 }
 
 #[cycle(printed_programs)]
-fn print_rule(forms: &mut Forms, rule: &Rule) -> Result<(), NoMemory>
-    ensures { OnOk result (forms.new ≡ forms.old ++ rule_text rule.now) }
+fn print_rule(forms: &mut Forms, last: bool, rule: &Rule) -> Result<(), NoMemory>
+    ensures { OnOk result (forms.new ≡ forms.old ++ rule_text last rule.now) }
 {
     print_pat(forms, &rule.pat)?;
     forms.mark(b"=>")?;
-    print_exp(forms, &rule.body)?;
-    Ok(())
+    print_body(forms, last, &rule.body)
 }
