@@ -10,7 +10,7 @@ use std::test::Fail;
 use web_prims::prelude;
 
 /// Scripts with the text that they are printed as.
-const TEXTS: [(&str, &str); 12] = [
+const TEXTS: [(&str, &str); 33] = [
     ("", ""),
     ("val x = ~07 ;", "val x = ~7 \n"),
     (
@@ -21,8 +21,8 @@ const TEXTS: [(&str, &str); 12] = [
         "val x = (#\"a\", #\"\\n\", #\"\\\"\", #\"\\200\", #\"\\127\")",
         "val x = ( #\"a\" , #\"\\n\" , #\"\\\"\" , #\"\\200\" , #\"\u{7f}\" ) \n",
     ),
-    ("f (op * )", "val it = ( f op * ) \n"),
-    ("1 = 2", "val it = ( op = ( 1 , 2 ) ) \n"),
+    ("f (op * )", "val it = f op * \n"),
+    ("1 = 2", "val it = 1 = 2 \n"),
     (
         "`a ^(x)y^val z^(`b^(1)`)^o^^`",
         "val it = `a ^( x )y^val z^( `b^( 1 )` )^( op o )^^` \n",
@@ -30,7 +30,7 @@ const TEXTS: [(&str, &str); 12] = [
     ("val rec f = fn x => x | 1 => 2", "fun f x = x | f 1 = 2 \n"),
     (
         "fun A.f 1 (x, y) = x | A.f x z : t = y and op o z = z",
-        "fun A.f 1 ( x , y ) = x | A.f x z = ( y : t ) and op o z = z \n",
+        "fun A.f 1 ( x , y ) = x | A.f x z = y : t and op o z = z \n",
     ),
     (
         "val (x :: w) :: A.y (z : int) :: (v : int list) = a",
@@ -43,6 +43,66 @@ const TEXTS: [(&str, &str); 12] = [
     (
         "let fun f x = x in f; f end",
         "val it = let fun f x = x in f ; f end \n",
+    ),
+    ("1 - (2 - 3)", "val it = 1 - ( 2 - 3 ) \n"),
+    ("(1 - 2) - 3", "val it = 1 - 2 - 3 \n"),
+    ("a :: b :: c", "val it = a :: b :: c \n"),
+    ("(a :: b) :: c", "val it = ( a :: b ) :: c \n"),
+    (
+        "(a + b) * (c - d) div ~1",
+        "val it = ( a + b ) * ( c - d ) div ~1 \n",
+    ),
+    (
+        "x = y andalso z orelse w",
+        "val it = x = y andalso z orelse w \n",
+    ),
+    (
+        "x andalso (y orelse z)",
+        "val it = x andalso ( y orelse z ) \n",
+    ),
+    (
+        "if a then b else if c then d else e",
+        "val it = if a then b else if c then d else e \n",
+    ),
+    (
+        "(if a then b else c) + 1",
+        "val it = ( if a then b else c ) + 1 \n",
+    ),
+    (
+        "case x of 1 => (fn y => case y of 2 => 3) | _ => 4",
+        "val it = case x of 1 => ( fn y => case y of 2 => 3 ) | _ => 4 \n",
+    ),
+    (
+        "case x of 1 => 2 | _ => fn x => case x of 3 => 4",
+        "val it = case x of 1 => 2 | _ => fn x => case x of 3 => 4 \n",
+    ),
+    ("f (g x) y", "val it = f ( g x ) y \n"),
+    ("(fn x => x) 1", "val it = ( fn x => x ) 1 \n"),
+    (
+        "(raise e) handle _ => 1",
+        "val it = ( raise e ) handle _ => 1 \n",
+    ),
+    ("x : int", "val it = x : int \n"),
+    ("op + (1, 2, 3)", "val it = op + ( 1 , 2 , 3 ) \n"),
+    (
+        "fun f 1 2 = (fn x => x) | f x y = case x of 1 => y",
+        "fun f 1 2 = ( fn x => x ) | f x y = case x of 1 => y \n",
+    ),
+    (
+        "fun id x = x val _ = Web.write (Int.toString (id 4) ^ id \"k\")",
+        "fun id x = x \nval _ = Web.write ( Int.toString ( id 4 ) ^ id \"k\" ) \n",
+    ),
+    (
+        "val x = \"1\" val y = \"2\" val _ = Web.write (Int.toString (length `a^x^(y)`) ^ Web.quot `a^x^(y)`)",
+        "val x = \"1\" \nval y = \"2\" \nval _ = Web.write ( Int.toString ( length `a^( x )^( y )` ) ^ Web.quot `a^( x )^( y )` ) \n",
+    ),
+    (
+        "val c = Web.Cache.get (Web.Cache.Int, Web.Cache.Int, \"sq\", Web.Cache.WhileUsed (NONE, NONE)) val f = Web.Cache.memoize c (fn n => (Web.write \"run \"; n * n)) val _ = Web.write (Int.toString (f 7) ^ \" \" ^ Int.toString (f 7))",
+        "val c = Web.Cache.get ( Web.Cache.Int , Web.Cache.Int , \"sq\" , Web.Cache.WhileUsed ( NONE , NONE ) ) \nval f = Web.Cache.memoize c ( fn n => ( Web.write \"run \" ; n * n ) ) \nval _ = Web.write ( Int.toString ( f 7 ) ^ \" \" ^ Int.toString ( f 7 ) ) \n",
+    ),
+    (
+        "val _ = Web.write (\"<p>\" ^ Int.toString (6 * 7) ^ \"</p>\")",
+        "val _ = Web.write ( \"<p>\" ^ Int.toString ( 6 * 7 ) ^ \"</p>\" ) \n",
     ),
 ];
 
