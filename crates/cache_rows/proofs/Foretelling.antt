@@ -2,7 +2,7 @@
 use Rattle.std.proofs.Common.{◌≡◌, ℕ, List, ◌∷◌, ◌++◌, filter, true, Some, None, refl, ap, sym, ◌∙◌, subst}
 use Rattle.std.specs.List.{AllByRecursion, IsDistinct}
 use Rattle.std.specs.Map.{keys_of, lookup}
-use Rattle.sml_syntax.specs.declared.cache.Kind.{Kind}
+use Rattle.web_data.specs.declared.cache.Kind.{Kind}
 use Rattle.cache_rows.specs.declared.table.Cell.{Cell}
 use Rattle.cache_rows.specs.RowMachine.{PickleRow, NoneNamed, Foretells, key_of, stays, current}
 use Rattle.cache_rows.specs.Indexed.{Indexed, Entry, row_of, rows_of, same_key, is_key}

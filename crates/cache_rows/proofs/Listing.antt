@@ -4,7 +4,7 @@ use Rattle.std.proofs.Math.Seq.{take-suc}
 use Rattle.std.proofs.Math.Nat.{min-eq_left}
 use Rattle.std.proofs.lemmas.Bool.{ltb-true, lt-ltb}
 use Rattle.std.specs.List.{AllByRecursion}
-use Rattle.sml_syntax.specs.declared.cache.Kind.{Kind}
+use Rattle.web_data.specs.declared.cache.Kind.{Kind}
 use Rattle.cache_rows.specs.RowMachine.{PickleRow, NoneNamed, Finds, TakesOut, key_of, used, stays, current, sizes, pickle_size, kept}
 use Rattle.cache_rows.specs.Indexed.{FirstToLeave}
 use Rattle.cache_rows.proofs.Lists.{At, at-place, all-append, all-weaker, filter-all, filter-with, seam}

@@ -2,7 +2,7 @@
 use Rattle.std.proofs.Common.{◌≡◌, ℕ, zero, suc, ◌<◌, ◌≤◌, List, [], ◌∷◌, ◌++◌, filter, Bool, true, false, not, Option, Some, None, nat_le, refl, ap, sym, ◌∙◌, subst, arith}
 use Rattle.std.specs.List.{AllByRecursion}
 use Rattle.std.proofs.lemmas.Bool.{ltb-true, lt-ltb, le-leb, le-ltb, lt-leb}
-use Rattle.sml_syntax.specs.declared.cache.Kind.{Kind}
+use Rattle.web_data.specs.declared.cache.Kind.{Kind}
 use Rattle.cache_rows.specs.RowMachine.{PickleRow, NoneNamed, Looks, Puts, LeavesOut, key_of, used, sizes, pickle_size, stays, current, kept, settled, new_row}
 use Rattle.cache_rows.specs.Indexed.{LeavesFirst, Answers, Leaves, Replaces}
 use Rattle.cache_rows.proofs.Lists.{if_so, if_not, all-filter, filter-append, filter-none, filter-with, filter-without}

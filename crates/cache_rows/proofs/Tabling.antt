@@ -7,7 +7,7 @@ use Rattle.std.specs.Ordering.{is_gt}
 use Rattle.std.proofs.lemmas.Bool.{ltb-true, lt-ltb}
 use Rattle.std.proofs.lemmas.Slice.Eq.{bytes_eq-Decides}
 use Rattle.indexmap.specs.IndexMap.{insert_entry}
-use Rattle.sml_syntax.specs.declared.cache.Kind.{Kind}
+use Rattle.web_data.specs.declared.cache.Kind.{Kind}
 use Rattle.cache_rows.specs.declared.table.Cell.{Cell}
 use Rattle.cache_rows.specs.RowMachine.{PickleRow, NoneNamed, TakesOut, key_of, used, sizes, pickle_size, stays, current, new_row}
 use Rattle.cache_rows.specs.Indexed.{Indexed, Entry, row_of, rows_of, place_of, placed, by_place, key_at, same_key, is_key, BirthsRise, LeavesFirst, Touches, Replaces}

@@ -8,7 +8,7 @@ use Rattle.std.specs.Map.{keys_of, lookup, set_value}
 use Rattle.std.specs.BTreeMap.{is_at}
 use Rattle.std.specs.declared.alloc.Global.{Global}
 use Rattle.std.specs.declared.vec.Vec.{Vec}
-use Rattle.sml_syntax.specs.declared.cache.Kind.{Kind}
+use Rattle.web_data.specs.declared.cache.Kind.{Kind}
 use Rattle.cache_rows.specs.declared.table.Cell.{Cell}
 use Rattle.cache_rows.specs.RowMachine.{PickleRow, Named, NoneNamed, key_of, used, stays, current, new_row, sizes, pickle_size}
 

@@ -2,7 +2,7 @@
 -- order of birth. Keys and values may be data or their pickles: `size` is the size of a row's key and value.
 use Rattle.std.specs.Prelude.{◌≡◌, ℕ, ◌+◌, ◌-◌, ◌≤◌, List, [], ◌∷◌, ◌++◌, length, Bool, true, false, if◌then◌else◌, Option, Some, None, nat_lt, nat_le, filter, ⊤}
 use Rattle.std.specs.List.{AllByRecursion}
-use Rattle.sml_syntax.specs.declared.cache.Kind.{Kind}
+use Rattle.web_data.specs.declared.cache.Kind.{Kind}
 use Rattle.cache_rows.specs.declared.row.Row.{Row}
 use Rattle.cache_rows.specs.declared.row.RowCall.{RowCall}
 use Rattle.cache_rows.specs.declared.row.RowCall.TheVariants as call

@@ -5,9 +5,10 @@ ghost use Rattle.cache_rows.specs.Indexed.{FirstToLeave};
 
 use crate::row::{Row, stays};
 use crate::row_store::RowStore;
-use sml_syntax::{Kind, NoMemory, Text};
+use sml_syntax::{NoMemory, Text};
 use std::alloc::Global;
 use std::marker::Model;
+use web_data::Kind;
 
 /// Rows in a list, in the order of birth.
 #[derive(Drop)]

@@ -6,9 +6,10 @@ ghost use Rattle.cache_rows.specs.RowMachine.{Foretells, Looks, Puts, PickleRow,
 use crate::row::stays;
 use crate::row_store::RowStore;
 use crate::table::Table;
-use sml_syntax::{Kind, NoMemory, Text};
+use sml_syntax::{NoMemory, Text};
 use std::alloc::Global;
 use std::marker::Model;
+use web_data::Kind;
 
 /// Rows in maps: a lookup and an insert that drops no row take time that grows with the logarithm of the rows.
 #[derive(Drop)]

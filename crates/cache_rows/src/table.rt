@@ -6,10 +6,11 @@ ghost use Rattle.cache_rows.specs.Indexed.{Answers, Replaces, Restamps, LeavesFi
 
 use crate::row::stays;
 use indexmap::IndexMap;
-use sml_syntax::{Kind, NoMemory, Text};
+use sml_syntax::{NoMemory, Text};
 use std::alloc::Global;
 use std::collections::BTreeMap;
 use std::marker::Model;
+use web_data::Kind;
 
 /// A row but for its key. A later row has a greater birth.
 #[derive(Drop)]

@@ -1,7 +1,7 @@
 -- What the reader answers, and what comes of it.
 use Rattle.std.proofs.Common.{◌≡◌, ℕ, ◌+◌, ◌<◌, ◌≤◌, false, List, [], ◌∷◌, ◌++◌, length, drop, None, Result, Ok, Err, IfErr, sym, ap, ◌∙◌, subst, arith, length-drop}
-use Rattle.sml_syntax.specs.declared.request.Request.{Request}
-use Rattle.sml_syntax.specs.declared.request.Reply.{Reply}
+use Rattle.web_messages.specs.declared.request.Request.{Request}
+use Rattle.web_messages.specs.declared.request.Reply.{Reply}
 use Rattle.http_reply.specs.ReplyBytes.{IsFaultStatus}
 use Rattle.http_read.specs.declared.reader.Next.{Next}
 use Rattle.http_read.specs.declared.reader.Next.TheVariants as next

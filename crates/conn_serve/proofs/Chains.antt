@@ -2,9 +2,9 @@
 use Rattle.std.proofs.Common.{◌≡◌, ℕ, List, [], ◌∷◌, ◌++◌, Option, Some, None, refl, sym, ap, ◌∙◌, subst, append_assoc}
 use Rattle.std.proofs.lemmas.List.{append-nil}
 use Rattle.outside_world.specs.Told.{grown}
-use Rattle.outside_world.specs.Answering.{Chain}
-use Rattle.sml_syntax.specs.declared.request.Request.{Request}
-use Rattle.sml_syntax.specs.declared.request.Reply.{Reply}
+use Rattle.web_messages.specs.Answering.{Chain}
+use Rattle.web_messages.specs.declared.request.Request.{Request}
+use Rattle.web_messages.specs.declared.request.Reply.{Reply}
 use Rattle.http_reply.specs.ReplyBytes.{bytes_of}
 use Rattle.conn_serve.specs.Serving.{replies_bytes}
 

@@ -1,7 +1,7 @@
 -- The statuses of bytes that are no message.
 use Rattle.std.proofs.Common.{◌≡◌, ℕ, zero, suc, ◌≤◌, ◌<◌, inl, inr, Bool, true, false, List, length, refl, sym, subst, arith}
 use Rattle.std.specs.Prelude.{◌&&◌, if◌then◌else◌, not, nat_lt, ◌==◌, codes}
-use Rattle.sml_syntax.specs.declared.request.Request.{Request}
+use Rattle.web_messages.specs.declared.request.Request.{Request}
 use Rattle.http_reply.specs.ReplyBytes.{IsFaultStatus}
 use Rattle.http_read.specs.Head.{Judgement, Refuses, Takes, Field, provided, judge_length, judge_fields, is_known_method, is_known_target, are_lengths, body_length, most_body, has_field, count_fields, length_values, fields_of}
 use Rattle.http_read.specs.Messages.{Message, Fault, HasFront, ends_at}

@@ -3,8 +3,8 @@ use Rattle.std.proofs.Common.{◌≡◌, ℕ, ◌≤◌, List, [], ◌++◌, len
 use Rattle.std.proofs.lemmas.Grind.{common_steps}
 use Rattle.std.proofs.lemmas.List.{append-nil}
 use Rattle.outside_world.specs.Told.{Rose, IsUsedUp, led}
-use Rattle.sml_syntax.specs.declared.request.Request.{Request}
-use Rattle.sml_syntax.specs.declared.request.Reply.{Reply}
+use Rattle.web_messages.specs.declared.request.Request.{Request}
+use Rattle.web_messages.specs.declared.request.Reply.{Reply}
 use Rattle.http_read.specs.Messages.{HasFront, Held, IsAfter, Open}
 use Rattle.http_read.specs.Reader.{ReaderState}
 use Rattle.conn_serve.specs.declared.Ended.{Ended}

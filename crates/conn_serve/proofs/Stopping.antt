@@ -2,9 +2,9 @@
 use Rattle.std.proofs.Common.{◌≡◌, ℕ, ◌≤◌, inl, inr, false, List, [], ◌∷◌, ◌++◌, length, drop, Option, refl, sym, ap, ◌∙◌, subst, arith, append_assoc}
 use Rattle.std.proofs.lemmas.List.{append-nil}
 use Rattle.outside_world.specs.Told.{Rose, grown, GrewByFront}
-use Rattle.outside_world.specs.Answering.{Chain}
-use Rattle.sml_syntax.specs.declared.request.Request.{Request}
-use Rattle.sml_syntax.specs.declared.request.Reply.{Reply}
+use Rattle.web_messages.specs.Answering.{Chain}
+use Rattle.web_messages.specs.declared.request.Request.{Request}
+use Rattle.web_messages.specs.declared.request.Reply.{Reply}
 use Rattle.http_reply.specs.ReplyBytes.{bytes_of, fault_bytes}
 use Rattle.http_read.specs.Messages.{HasFront, Fault, Message, After, Open, Bad, Closing, IsAfter, last_closes}
 use Rattle.http_read.proofs.Begins.{begins_more}

@@ -2,9 +2,9 @@
 -- (tear-down).
 use Rattle.std.specs.Prelude.{◌≡◌, ℕ, ◌<◌, ◌≤◌, ◌^◌, ◌⊎◌, List, [], ◌∷◌, ◌++◌, length, Option}
 use Rattle.outside_world.specs.Told.{Rose, grown, led, IsUsedUp, GrewByFront}
-use Rattle.outside_world.specs.Answering.{Chain}
-use Rattle.sml_syntax.specs.declared.request.Request.{Request}
-use Rattle.sml_syntax.specs.declared.request.Reply.{Reply}
+use Rattle.web_messages.specs.Answering.{Chain}
+use Rattle.web_messages.specs.declared.request.Request.{Request}
+use Rattle.web_messages.specs.declared.request.Reply.{Reply}
 use Rattle.http_reply.specs.ReplyBytes.{bytes_of, fault_bytes}
 use Rattle.http_read.specs.Messages.{BeginsWith, IsAfter, Open, Bad, Closing}
 use Rattle.conn_serve.specs.declared.Ended.{Ended}

@@ -1,9 +1,9 @@
 -- What the parts of serving a connection do: a reply, the messages at hand, a piece.
 use Rattle.std.specs.Prelude.{◌≡◌, ℕ, ◌<◌, ◌≤◌, Bool, true, false, List, [], ◌++◌, length}
 use Rattle.outside_world.specs.Told.{Rose, grown, led, GrewByFront}
-use Rattle.outside_world.specs.Answering.{Chain}
-use Rattle.sml_syntax.specs.declared.request.Request.{Request}
-use Rattle.sml_syntax.specs.declared.request.Reply.{Reply}
+use Rattle.web_messages.specs.Answering.{Chain}
+use Rattle.web_messages.specs.declared.request.Request.{Request}
+use Rattle.web_messages.specs.declared.request.Reply.{Reply}
 use Rattle.http_reply.specs.ReplyBytes.{bytes_of, fault_bytes}
 use Rattle.http_read.specs.Messages.{BeginsWith, HasFront, Held, last_closes}
 use Rattle.http_read.specs.Reader.{ReaderState}

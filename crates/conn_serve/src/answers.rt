@@ -7,9 +7,10 @@ ghost use Rattle.conn_serve.specs.Steps.{Takes, SendEnds, Replied, ReplyEnds, Fa
 use crate::Ended;
 use http_read::{Next, Reader};
 use http_reply::{bad_bytes, reply_bytes};
-use outside_world::{Answerer, Conn, WriteRefusal, write_all};
-use sml_syntax::{Request, Text};
+use outside_world::{Conn, WriteRefusal, write_all};
+use sml_syntax::Text;
 use std::alloc::Global;
+use web_messages::{Answerer, Request};
 
 // Writes bytes to the link.
 fn send<L: Conn>(link: &mut L, bytes: &Text) -> Result<(), Ended>

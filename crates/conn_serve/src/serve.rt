@@ -8,8 +8,9 @@ ghost use Rattle.conn_serve.specs.Steps.{Gives, InputEnds, PieceGoesOn, PieceEnd
 use crate::Ended;
 use crate::answers::answer_held;
 use http_read::Reader;
-use outside_world::{Answerer, Conn, Failed};
+use outside_world::{Conn, Failed};
 use std::alloc::Global;
+use web_messages::Answerer;
 
 // The most bytes that are read of one connection.
 const MOST_BYTES: u64 = 1 << 40;

@@ -10,8 +10,8 @@ use crate::lists::{
 use crate::{CoreState, StepRefusal};
 use history_check::is_legal;
 use history_core::{Entry, Event, Owner};
-use sml_syntax::{CacheAns, CacheCall, DbAns, DbCmd, WebAns, WebCall};
 use std::alloc::Global;
+use web_data::{CacheAns, CacheCall, DbAns, DbCmd, WebAns, WebCall};
 
 /// Makes the step of an event.
 pub fn core_step(alloc: Global, state: &mut CoreState, event: &Event) -> Result<(), StepRefusal>

@@ -1,15 +1,15 @@
 // A book for one worker: the calls of a request, readings that fall, a fault and a spare.
 ghost use Rattle.std.specs.Prelude.{◌≡◌, ◌<◌, length, true, None};
-ghost use Rattle.sml_syntax.specs.CacheCalls.{cache_call_fits};
+ghost use Rattle.web_data.specs.CacheCalls.{cache_call_fits};
 ghost use Rattle.history_core.specs.Calling.{IsRunning};
 
 use crate::copied::text;
 use db_keeper::{Keeper, MapKeeper};
 use db_pool::{Handle, Handled};
 use history_core::{Calls, LoneBook};
-use sml_syntax::{CacheAns, CacheCall, CacheId, CacheOp, Datum, DbAns, DbCmd, Desc, Kind};
 use std::process::Abort;
 use std::test::Fail;
+use web_data::{CacheAns, CacheCall, CacheId, CacheOp, Datum, DbAns, DbCmd, Desc, Kind};
 
 // A call on a cache from integers to integers, whose rows stay ten seconds.
 fn call(rt: &(impl Abort + AllocGlobal), value: Option<i64>) -> CacheCall

@@ -1,8 +1,9 @@
 // A request, and a reply of each form.
 use crate::copied::{Copied, are_copied, list, text};
-use sml_syntax::{FormVars, NoMemory, Refusal, Reply, Request};
+use sml_syntax::NoMemory;
 use std::alloc::Global;
 use std::process::Abort;
+use web_messages::{FormVars, Refusal, Reply, Request};
 
 fn form(rt: &(impl Abort + AllocGlobal)) -> FormVars {
     FormVars {

@@ -1,24 +1,14 @@
-// Copies of data, calls, requests and values, and the calls on texts, lists and boxes.
-use crate::calls::{
-    are_answers_copied, are_cache_calls_copied, are_calls_copied, are_commands_copied,
-};
+// Copies of requests and values, and the calls on texts, lists and boxes.
 use crate::copied::{boxed, list, text};
-use crate::data::{are_data_copied, are_descriptions_copied};
 use crate::requests::{are_replies_copied, are_requests_copied};
 use crate::values::{are_closures_copied, are_values_copied};
 use sml_syntax::Text;
 use std::process::Abort;
 
 #[test]
-fn copies_data_and_calls(rt: HostRuntime) {
+fn copies_requests_and_values(rt: HostRuntime) {
     hold_texts(&rt);
     hold_lists(&rt);
-    are_data_copied(&rt);
-    are_descriptions_copied(&rt);
-    are_cache_calls_copied(&rt);
-    are_commands_copied(&rt);
-    are_calls_copied(&rt);
-    are_answers_copied(&rt);
     are_requests_copied(&rt);
     are_replies_copied(&rt);
     are_closures_copied(&rt);

@@ -1,13 +1,25 @@
 // A value of each form.
-use crate::calls::cache;
 use crate::copied::{Copied, are_copied, boxed, list, text};
-use sml_syntax::{
-    Bound, Boxed, Closure, Desc, Exp, ExpForm, Listed, NoMemory, Pat, PatForm, Rule, Span, Value,
-};
+use sml_evaluation::{Bound, Closure, Value};
+use sml_syntax::{Constructor, Exp, ExpForm, Listed, NoMemory, Pat, PatForm, Rule, Span};
 use std::alloc::Global;
 use std::process::Abort;
+use web_data::{CacheId, Desc, Kind};
 
 const SPAN: Span = Span { from: 3, to: 8 };
+
+fn cache(rt: &(impl Abort + AllocGlobal)) -> CacheId {
+    CacheId {
+        name: text(rt, "squares"),
+        key: Desc::Int,
+        value: Desc::Str,
+        kind: Kind {
+            used: true,
+            time: Some(60),
+            size: None,
+        },
+    }
+}
 
 /// `_ => 1`
 fn rules(rt: &(impl Abort + AllocGlobal)) -> Listed<Rule> {
@@ -24,7 +36,10 @@ fn rules(rt: &(impl Abort + AllocGlobal)) -> Listed<Rule> {
 
 fn closure(rt: &(impl Abort + AllocGlobal)) -> Closure {
     let x = (text(rt, "x"), Bound::Variable(Value::Int(1)));
-    let y = (text(rt, "y"), Bound::Constructor(true));
+    let y = (
+        text(rt, "y"),
+        Bound::Constructor(Constructor::Data(1, 0), true),
+    );
     Closure {
         rules: rules(rt),
         env: list(rt, [x, y]),
@@ -36,15 +51,11 @@ pub(crate) fn are_closures_copied(rt: &(impl Abort + AllocGlobal)) {
     are_copied(rt, &[closure(rt)]);
     let bounds = [
         Bound::Variable(Value::Int(1)),
-        Bound::Constructor(true),
-        Bound::Constructor(false),
-        Bound::Exception(1, true),
+        Bound::Constructor(Constructor::Data(1, 0), true),
+        Bound::Constructor(Constructor::Data(1, 1), false),
+        Bound::Constructor(Constructor::Exn(1), true),
     ];
     are_copied(rt, &bounds);
-}
-
-fn one(rt: &(impl Abort + AllocGlobal)) -> Option<Boxed<Value>> {
-    Some(boxed(rt, Value::Int(1)))
 }
 
 pub(crate) fn are_values_copied(rt: &(impl Abort + AllocGlobal)) {
@@ -54,10 +65,11 @@ pub(crate) fn are_values_copied(rt: &(impl Abort + AllocGlobal)) {
         Value::Str(text(rt, "a")),
         Value::Unit,
         Value::Tuple(list(rt, [Value::Int(1), Value::Int(2)])),
-        Value::Con(text(rt, "NONE"), None),
-        Value::Con(text(rt, "SOME"), one(rt)),
-        Value::Exn(0, text(rt, "Fail"), None),
-        Value::Exn(0, text(rt, "Fail"), one(rt)),
+        Value::Con(1, 0),
+        Value::Applied(1, 1, boxed(rt, Value::Int(1))),
+        Value::Exn(0, None),
+        Value::Exn(0, Some(boxed(rt, Value::Int(1)))),
+        Value::Maker(Constructor::Ref),
         Value::Ref(1),
         Value::Fun(closure(rt)),
         Value::Prim(text(rt, "+"), list(rt, [Value::Int(1)])),

@@ -3,8 +3,8 @@ use Rattle.std.proofs.Common.{◌≡◌, ℕ, List, Bool, true, false, Some, Non
 use Rattle.std.specs.Prelude.{is_some}
 use Rattle.std.specs.Map.{set_value}
 use Rattle.std.specs.BTreeMap.{BTreeMap, is_at, get_by}
-use Rattle.sml_syntax.specs.declared.database.DbAns.{DbAns}
-use Rattle.sml_syntax.specs.declared.database.DbAns.TheVariants as ans
+use Rattle.web_data.specs.declared.database.DbAns.{DbAns}
+use Rattle.web_data.specs.declared.database.DbAns.TheVariants as ans
 use Rattle.db_keeper.specs.DatabaseMachine.{Table, Tables, Effect, effect, on_table, inserted, under, with_new, with_changed, without}
 use Rattle.db_keeper.specs.Shown.{table_of, tables_of, insert_answer, with_row}
 use Rattle.db_keeper.proofs.Maps.{Key, Tree, query, table-found, table-changed, table-kept, if_so, if_not}

@@ -6,11 +6,11 @@ use Rattle.std.specs.Cmp.Lexicographic.{slice_cmp}
 use Rattle.std.specs.declared.cmp.Ordering.{Ordering}
 use Rattle.std.specs.Map.{lookup, set_value, remove_entry}
 use Rattle.std.specs.BTreeMap.{insert_entry, is_at}
-use Rattle.sml_syntax.specs.declared.database.DbCmd.{DbCmd}
-use Rattle.sml_syntax.specs.declared.database.DbCmd.TheVariants as cmd
-use Rattle.sml_syntax.specs.declared.database.DbAns.{DbAns}
-use Rattle.sml_syntax.specs.declared.database.DbAns.TheVariants as ans
-use Rattle.sml_syntax.specs.DatabaseAnswers.{row_of_entry}
+use Rattle.web_data.specs.declared.database.DbCmd.{DbCmd}
+use Rattle.web_data.specs.declared.database.DbCmd.TheVariants as cmd
+use Rattle.web_data.specs.declared.database.DbAns.{DbAns}
+use Rattle.web_data.specs.declared.database.DbAns.TheVariants as ans
+use Rattle.web_data.specs.DatabaseAnswers.{row_of_entry}
 
 -- the order of two texts by their bytes
 abbrev pub by_bytes : List ℕ → List ℕ → Ordering

@@ -2,8 +2,8 @@
 use Rattle.std.specs.Prelude.{◌≡◌, ℕ, Option, Some, None}
 use Rattle.outside_world.specs.FaultPlan.{FaultPlan}
 use Rattle.db_keeper.specs.DatabaseMachine.{Tables, TableStep}
-use Rattle.sml_syntax.specs.declared.database.DbCmd.{DbCmd}
-use Rattle.sml_syntax.specs.declared.database.DbAns.{DbAns}
+use Rattle.web_data.specs.declared.database.DbCmd.{DbCmd}
+use Rattle.web_data.specs.declared.database.DbAns.{DbAns}
 
 -- what is seen of a keeper
 pub record KeeperMeaning : Type 0 where

@@ -1,12 +1,13 @@
 // What keeps tables.
 ghost use Rattle.std.specs.Prelude.{◌≡◌, ◌≤◌, ◌↔◌, IfOk, OnErr, IsErrOf};
-ghost use Rattle.sml_syntax.specs.DatabaseAnswers.{FitsCommand};
+ghost use Rattle.web_data.specs.DatabaseAnswers.{FitsCommand};
 ghost use Rattle.outside_world.specs.Told.{Rose};
 ghost use Rattle.outside_world.specs.FaultPlan.{FailsAsPlanned, plan_after};
 ghost use Rattle.db_keeper.specs.Keeping.{KeeperMeaning, AnswersBy};
 
-use sml_syntax::{DbAns, DbCmd, NoMemory};
+use sml_syntax::NoMemory;
 use std::alloc::{AllocError, AllocFailed};
+use web_data::{DbAns, DbCmd};
 
 /// Why a keeper gave no answer. The tables are as they were.
 #[derive(Clone, Copy, Debug, PartialEq, Eq)]

@@ -4,9 +4,10 @@ ghost use Rattle.outside_world.specs.FaultPlan.{fresh_plan};
 
 use crate::tables::Tables;
 use crate::{Keeper, KeeperFault};
-use sml_syntax::{DbAns, DbCmd, NoMemory};
+use sml_syntax::NoMemory;
 use std::alloc::Global;
 use std::marker::Model;
+use web_data::{DbAns, DbCmd};
 
 /// Tables in memory, in ordered maps.
 #[derive(Drop)]

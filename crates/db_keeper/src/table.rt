@@ -1,12 +1,13 @@
 // One table in an ordered map, from keys to values.
 ghost use Rattle.std.specs.Prelude.{◌≡◌, IfOk, OnOk, OnErr, [], ◌∷◌, map};
-ghost use Rattle.sml_syntax.specs.DatabaseAnswers.{row_of_entry, KeysAscend};
+ghost use Rattle.web_data.specs.DatabaseAnswers.{row_of_entry, KeysAscend};
 ghost use Rattle.db_keeper.specs.DatabaseMachine.{rows_of_value, under, without};
 ghost use Rattle.db_keeper.specs.Shown.{table_of, insert_answer, with_row};
 
-use sml_syntax::{DbAns, Listed, NoMemory, Text};
+use sml_syntax::{Listed, NoMemory, Text};
 use std::alloc::Global;
 use std::collections::BTreeMap;
+use web_data::DbAns;
 
 /// Values by their keys.
 pub(crate) type Table = BTreeMap<Vec<u8>, Text>;

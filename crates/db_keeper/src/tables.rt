@@ -1,14 +1,15 @@
 // Tables in ordered maps, from their names to maps from keys to values.
 ghost use Rattle.std.specs.Prelude.{◌≡◌, [], IfOk, OnErr};
-ghost use Rattle.sml_syntax.specs.DatabaseAnswers.{FitsCommand};
-ghost use Rattle.sml_syntax.specs.declared.database.DbCmd.TheVariants as cmd;
+ghost use Rattle.web_data.specs.DatabaseAnswers.{FitsCommand};
+ghost use Rattle.web_data.specs.declared.database.DbCmd.TheVariants as cmd;
 ghost use Rattle.db_keeper.specs.DatabaseMachine.{TableStep};
 
 use crate::table::{Table, all_rows, insert_row, remove_row, value_row};
-use sml_syntax::{DbAns, DbCmd, NoMemory, Text};
+use sml_syntax::{NoMemory, Text};
 use std::alloc::Global;
 use std::collections::BTreeMap;
 use std::marker::Model;
+use web_data::{DbAns, DbCmd};
 
 /// The tables of a database by their names.
 #[derive(Drop)]

@@ -1,9 +1,9 @@
 -- What a call does to the keepers of a database. The first of them stands, the others are spares in their order.
 use Rattle.std.specs.Prelude.{◌≡◌, ◌≤◌, List, [], ◌∷◌, Bool, true, false}
-use Rattle.sml_syntax.specs.declared.database.DbCmd.{DbCmd}
-use Rattle.sml_syntax.specs.declared.database.DbAns.{DbAns}
-use Rattle.sml_syntax.specs.declared.database.DbAns.TheVariants as ans
-use Rattle.sml_syntax.specs.DatabaseAnswers.{FitsCommand}
+use Rattle.web_data.specs.declared.database.DbCmd.{DbCmd}
+use Rattle.web_data.specs.declared.database.DbAns.{DbAns}
+use Rattle.web_data.specs.declared.database.DbAns.TheVariants as ans
+use Rattle.web_data.specs.DatabaseAnswers.{FitsCommand}
 use Rattle.outside_world.specs.Told.{Rose}
 use Rattle.outside_world.specs.FaultPlan.{FailsAsPlanned, plan_after}
 use Rattle.db_keeper.specs.Keeping.{KeeperMeaning, AnswersBy}

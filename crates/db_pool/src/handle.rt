@@ -3,8 +3,9 @@ ghost use Rattle.std.specs.Prelude.{◌≡◌, ◌<◌, ◌∷◌, length, IfOk}
 
 use crate::Handled;
 use db_keeper::{Keeper, KeeperFault};
-use sml_syntax::{DbAns, DbCmd, NoMemory, Text};
+use sml_syntax::{NoMemory, Text};
 use std::alloc::Global;
+use web_data::{DbAns, DbCmd};
 
 /// A database, of which one keeper stands and the others are spares in their order.
 #[derive(Drop)]

@@ -3,7 +3,8 @@ ghost use Rattle.std.specs.Prelude.{◌≡◌, ◌+◌, ℕ, List, length, IfOk,
 ghost use Rattle.db_keeper.specs.Keeping.{KeeperMeaning};
 ghost use Rattle.db_pool.specs.Handling.{HandleActs, HandleKept, replaced, has_spare};
 
-use sml_syntax::{DbAns, DbCmd, NoMemory, Text};
+use sml_syntax::{NoMemory, Text};
+use web_data::{DbAns, DbCmd};
 
 /// A database with its keepers.
 pub trait Handled: Drop {

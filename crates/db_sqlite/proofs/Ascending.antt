@@ -6,7 +6,7 @@ use Rattle.std.specs.Cmp.Lexicographic.{slice_cmp}
 use Rattle.std.specs.List.{AllByRecursion}
 use Rattle.std.specs.List.Sorted.{IsStrictlySortedBy}
 use Rattle.std.proofs.lemmas.Cmp.{nat_list_cmp_total}
-use Rattle.sml_syntax.specs.DatabaseAnswers.{KeysAscend, row_of_entry}
+use Rattle.web_data.specs.DatabaseAnswers.{KeysAscend, row_of_entry}
 
 abbrev pub Entry : Type 0
 Entry = List ℕ × List ℕ

@@ -3,9 +3,10 @@ ghost use Rattle.std.specs.Prelude.{◌≡◌, IfOk, None};
 
 use crate::statements::run;
 use db_keeper::{Keeper, KeeperFault};
-use sml_syntax::{DbAns, DbCmd, NoMemory};
+use sml_syntax::NoMemory;
 use sqlite::{Connection, File, FileStore};
 use std::alloc::Global;
+use web_data::{DbAns, DbCmd};
 
 /// Tables in a file. It tells neither its tables nor its failing calls.
 #[derive(Drop)]

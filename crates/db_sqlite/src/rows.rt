@@ -3,7 +3,7 @@ ghost use Rattle.std.specs.Prelude.{◌≡◌, ◌⊎◌, IfOk, IfSome, OnOk, Is
 ghost use Rattle.std.specs.Cmp.Lexicographic.{slice_cmp};
 ghost use Rattle.std.specs.Ordering.{nat_cmp};
 ghost use Rattle.std.specs.declared.cmp.Ordering.TheVariants.{Less};
-ghost use Rattle.sml_syntax.specs.DatabaseAnswers.{KeysAscend, row_of_entry};
+ghost use Rattle.web_data.specs.DatabaseAnswers.{KeysAscend, row_of_entry};
 
 use db_keeper::KeeperFault;
 use sml_syntax::{Listed, NoMemory, Text};

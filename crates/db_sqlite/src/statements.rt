@@ -1,18 +1,19 @@
 // Each command as a statement of SQL. Keys and values are bound to it; of a command only the table's name stands in it.
 ghost use Rattle.std.specs.Prelude.{◌≡◌, IfOk, IfErr};
-ghost use Rattle.sml_syntax.specs.DatabaseAnswers.{FitsCommand};
-ghost use Rattle.sml_syntax.specs.declared.database.DbAns.TheVariants as ans;
-ghost use Rattle.sml_syntax.specs.declared.database.DbCmd.TheVariants as cmd;
+ghost use Rattle.web_data.specs.DatabaseAnswers.{FitsCommand};
+ghost use Rattle.web_data.specs.declared.database.DbAns.TheVariants as ans;
+ghost use Rattle.web_data.specs.declared.database.DbCmd.TheVariants as cmd;
 ghost use Rattle.db_sqlite.specs.Refusals.{fault_of};
 
 use crate::names::file_name;
 use crate::rows::{all_rows, value_row};
 use db_keeper::KeeperFault;
-use sml_syntax::{DbAns, DbCmd, NoMemory, Text};
+use sml_syntax::{NoMemory, Text};
 use sqlite::types::ValueRef;
 use sqlite::{Connection, Constraint, Error, ErrorCode, File, FileStore, Row};
 use sqlite_resolve::CompileError;
 use std::alloc::Global;
+use web_data::{DbAns, DbCmd};
 
 /// A connection to a database in a file.
 pub(crate) type FileConnection = Connection<FileStore<File>>;

@@ -4,15 +4,15 @@ use Rattle.std.specs.Prelude.{if◌then◌else◌, ◌==◌, codes, nat_lt}
 use Rattle.std.specs.List.{list_all}
 use Rattle.std.proofs.Math.Seq.{drop-append_seam}
 use Rattle.std.proofs.lemmas.List.{length-map}
-use Rattle.sml_syntax.specs.declared.database.DbCmd.{DbCmd}
-use Rattle.sml_syntax.specs.declared.database.DbCmd.TheVariants as cmd
-use Rattle.sml_syntax.specs.Statements as statement
-use Rattle.sml_syntax.specs.Statements.{is_space, is_table_byte, small, doubled, AreParts, parts_of, Statement, BeginsStatement, LongestBeginning, NoStatement}
+use Rattle.web_data.specs.declared.database.DbCmd.{DbCmd}
+use Rattle.web_data.specs.declared.database.DbCmd.TheVariants as cmd
+use Rattle.web_data.specs.Statements as statement
+use Rattle.web_data.specs.Statements.{is_space, is_table_byte, small, doubled, AreParts, parts_of, Statement, BeginsStatement, LongestBeginning, NoStatement}
 use Rattle.db_text.specs.declared.forms.Form.{Form}
 use Rattle.db_text.specs.declared.forms.Form.TheVariants as form
 use Rattle.db_text.specs.declared.refusal.DbRefusal.{DbRefusal}
 use Rattle.db_text.specs.declared.refusal.DbRefusal.TheVariants as refusal
-use Rattle.sml_syntax.specs.StatementReading.{Whole, Stops, run}
+use Rattle.web_data.specs.StatementReading.{Whole, Stops, run}
 use Rattle.db_text.specs.Answers.{parts_left, form_left, command_of, HasTexts, GivesCommand, GivesPlace}
 use Rattle.db_text.proofs.Meaning.{Rel, SmallWords, Begun, whole-back, stop-back, stop-bound, append-nil, first-and, second-and}
 use Rattle.db_text.proofs.Scans.{below, not-below}

@@ -3,10 +3,10 @@ use Rattle.std.proofs.Common.{◌≡◌, ℕ, suc, ◌+◌, ◌<◌, ◌≤◌, 
 use Rattle.std.specs.Prelude.{◌==◌, nat_lt, nat_le}
 use Rattle.std.specs.List.{list_all}
 use Rattle.std.proofs.lemmas.Bool.Decides.{nat_tests}
-use Rattle.sml_syntax.specs.Spelling.{is_letter}
-use Rattle.sml_syntax.specs.Statements as statement
-use Rattle.sml_syntax.specs.Statements.{is_space, is_table_byte, is_table_name, small, doubled, AreParts}
-use Rattle.sml_syntax.specs.StatementReading.{Left, Spaces, Gap, Word, Name, More, Quoted, Inside, Shut, state, Whole, run}
+use Rattle.sml_syntax.specs.ByteClasses.{is_letter}
+use Rattle.web_data.specs.Statements as statement
+use Rattle.web_data.specs.Statements.{is_space, is_table_byte, is_table_name, small, doubled, AreParts}
+use Rattle.web_data.specs.StatementReading.{Left, Spaces, Gap, Word, Name, More, Quoted, Inside, Shut, state, Whole, run}
 use Rattle.db_text.specs.Reading.{is_quote}
 use Rattle.db_text.specs.Answers.{parts_left}
 use Rattle.db_text.proofs.Scans.{run-step, run-same, past_any, if_so, if_not}

@@ -4,9 +4,9 @@ use Rattle.std.specs.Prelude.{if◌then◌else◌, ◌==◌, nat_lt, nat_le}
 use Rattle.std.specs.List.{list_all}
 use Rattle.std.specs.Option.{option_map_or}
 use Rattle.std.proofs.lemmas.Bool.Decides.{nat_tests}
-use Rattle.sml_syntax.specs.Spelling.{is_letter}
-use Rattle.sml_syntax.specs.Statements.{is_space, is_table_byte, is_table_name, small, doubled}
-use Rattle.sml_syntax.specs.StatementReading.{Left, Spaces, Gap, Word, Name, More, Quoted, Inside, Shut, State, step, Whole, Stops, finish, run}
+use Rattle.sml_syntax.specs.ByteClasses.{is_letter}
+use Rattle.web_data.specs.Statements.{is_space, is_table_byte, is_table_name, small, doubled}
+use Rattle.web_data.specs.StatementReading.{Left, Spaces, Gap, Word, Name, More, Quoted, Inside, Shut, State, step, Whole, Stops, finish, run}
 
 -- the bytes are what is left of the parts; the texts behind those so far are then these
 abbrev pub Rel : List (List ℕ) → List Left → List (List ℕ) → List ℕ → Type 0

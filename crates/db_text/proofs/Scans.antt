@@ -5,9 +5,9 @@ use Rattle.std.proofs.lemmas.List.{drop_all}
 use Rattle.std.specs.Prelude.{if◌then◌else◌, ◌==◌, nat_lt}
 use Rattle.std.specs.Option.{option_map_or}
 use Rattle.std.proofs.lemmas.Bool.Decides.{nat_tests}
-use Rattle.sml_syntax.specs.Spelling.{is_letter}
-use Rattle.sml_syntax.specs.Statements.{is_space, is_table_byte, small}
-use Rattle.sml_syntax.specs.StatementReading.{Left, Spaces, Gap, Word, Name, More, Quoted, Inside, Shut, State, state, step, Whole, Stops, finish, run}
+use Rattle.sml_syntax.specs.ByteClasses.{is_letter}
+use Rattle.web_data.specs.Statements.{is_space, is_table_byte, small}
+use Rattle.web_data.specs.StatementReading.{Left, Spaces, Gap, Word, Name, More, Quoted, Inside, Shut, State, state, step, Whole, Stops, finish, run}
 use Rattle.db_text.specs.Reading.{stands_at, is_quote, is_small}
 
 at_byte : (bs : List ℕ) (i : ℕ) → i < length bs → drop i bs ≡ get_or bs i 0 ∷ drop (i + 1) bs

@@ -2,9 +2,9 @@
 use Rattle.std.proofs.Common.{◌≡◌, ◌↔◌, inl, inr, ℕ, ◌≤◌, List, [], ◌∷◌, map, Bool, true, false, refl, ap, sym, subst, arith}
 use Rattle.std.specs.Prelude.{max, nat_lt}
 use Rattle.std.proofs.Math.Nat.{max-eq_left, max-eq_right, le-max_left, le-max_right}
-use Rattle.sml_syntax.specs.declared.database.DbCmd.{DbCmd}
-use Rattle.sml_syntax.specs.Statements.{Statement, NoStatement}
-use Rattle.sml_syntax.specs.StatementReading.{Reading, Whole, Stops, run, Told, Command, Outside, by_form, by_forms, statement_of}
+use Rattle.web_data.specs.declared.database.DbCmd.{DbCmd}
+use Rattle.web_data.specs.Statements.{Statement, NoStatement}
+use Rattle.web_data.specs.StatementReading.{Reading, Whole, Stops, run, Told, Command, Outside, by_form, by_forms, statement_of}
 use Rattle.db_text.specs.declared.forms.Form.{Form}
 use Rattle.db_text.specs.Answers.{form_left, command_of}
 use Rattle.db_text.proofs.Scans.{below, not-below}

@@ -1,16 +1,16 @@
 -- What the reader answers.
 use Rattle.std.specs.Prelude.{◌≡◌, ◌⊎◌, ℕ, List, [], ◌∷◌, map, Result, Ok, Err}
 use Rattle.std.specs.List.{slice_index_or}
-use Rattle.sml_syntax.specs.declared.database.DbCmd.{DbCmd}
-use Rattle.sml_syntax.specs.declared.database.DbCmd.TheVariants as cmd
-use Rattle.sml_syntax.specs.Statements as statement
+use Rattle.web_data.specs.declared.database.DbCmd.{DbCmd}
+use Rattle.web_data.specs.declared.database.DbCmd.TheVariants as cmd
+use Rattle.web_data.specs.Statements as statement
 use Rattle.db_text.specs.declared.forms.Form.{Form}
 use Rattle.db_text.specs.declared.forms.Form.TheVariants as form
 use Rattle.db_text.specs.declared.forms.Reading.{Reading}
 use Rattle.db_text.specs.declared.forms.Reading.TheVariants as reading
 use Rattle.db_text.specs.declared.refusal.DbRefusal.{DbRefusal}
 use Rattle.db_text.specs.declared.refusal.DbRefusal.TheVariants as refusal
-use Rattle.sml_syntax.specs.StatementReading.{Left, Reading as Outcome, Whole, Stops, part_left}
+use Rattle.web_data.specs.StatementReading.{Left, Reading as Outcome, Whole, Stops, part_left}
 
 -- this is what a run of the parts came to
 abbrev pub Gives : Outcome → Reading → Type 0

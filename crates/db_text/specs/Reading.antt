@@ -1,7 +1,7 @@
 -- How the code reads a statement: each of its parts as a run of what is left of the parts says.
 use Rattle.std.specs.Prelude.{◌≡◌, ℕ, ◌≤◌, List, ◌∷◌, length, drop, ◌==◌, ◌&&◌, nat_lt, Bool, slice_index}
-use Rattle.sml_syntax.specs.Statements.{small}
-use Rattle.sml_syntax.specs.StatementReading.{Left, Spaces, Gap, Word, Name, Quoted, Stops, run}
+use Rattle.web_data.specs.Statements.{small}
+use Rattle.web_data.specs.StatementReading.{Left, Spaces, Gap, Word, Name, Quoted, Stops, run}
 use Rattle.db_text.specs.declared.parts.Part.{Part}
 use Rattle.db_text.specs.declared.parts.Part.TheVariants as part
 use Rattle.db_text.specs.declared.parts.End.{End}

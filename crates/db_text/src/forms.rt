@@ -1,12 +1,13 @@
 // The five statements, each as its parts.
 ghost use Rattle.std.specs.Prelude.{◌≡◌, ◌<◌, [], ◌∷◌, ◌++◌, length, map, IfOk};
-ghost use Rattle.sml_syntax.specs.StatementReading.{run};
+ghost use Rattle.web_data.specs.StatementReading.{run};
 ghost use Rattle.db_text.specs.Reading.{left_of};
 ghost use Rattle.db_text.specs.Answers.{Gives, form_left, HasTexts, command_of};
 
 use crate::parts::{End, Part, read_part};
-use sml_syntax::{DbCmd, NoMemory, Text};
+use sml_syntax::{NoMemory, Text};
 use std::alloc::Global;
+use web_data::DbCmd;
 
 /// A form of statements.
 #[derive(Clone, Copy)]

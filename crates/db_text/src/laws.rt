@@ -1,8 +1,8 @@
 // What a text is, as the evaluation of scripts asks.
 ghost use Rattle.std.specs.Prelude.{◌≡◌, ◌↔◌, ℕ, List};
-ghost use Rattle.sml_syntax.specs.declared.database.DbCmd.{DbCmd as Command};
-ghost use Rattle.sml_syntax.specs.Statements.{Statement, NoStatement};
-ghost use Rattle.sml_syntax.specs.StatementReading as told;
+ghost use Rattle.web_data.specs.declared.database.DbCmd.{DbCmd as Command};
+ghost use Rattle.web_data.specs.Statements.{Statement, NoStatement};
+ghost use Rattle.web_data.specs.StatementReading as told;
 
 /// What the evaluation takes a text for, a byte at a time, is what the text is as a statement.
 pub fn statements_are_told()

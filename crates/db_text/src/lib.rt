@@ -5,8 +5,8 @@
 #![tactic(auto)]
 
 ghost use Rattle.std.specs.Prelude.{◌≡◌, ◌⊎◌, ◌≤◌, ℕ, IfOk, Err};
-ghost use Rattle.sml_syntax.specs.declared.database.DbCmd.{DbCmd as Command};
-ghost use Rattle.sml_syntax.specs.Statements.{Statement, NoStatement};
+ghost use Rattle.web_data.specs.declared.database.DbCmd.{DbCmd as Command};
+ghost use Rattle.web_data.specs.Statements.{Statement, NoStatement};
 ghost use Rattle.db_text.specs.Answers.{GivesCommand, GivesPlace};
 
 mod forms;
@@ -17,8 +17,8 @@ mod refusal;
 use forms::{FORMS, Reading, command, read_form};
 pub use laws::statements_are_told;
 pub use refusal::DbRefusal;
-use sml_syntax::DbCmd;
 use std::alloc::Global;
+use web_data::DbCmd;
 
 /// The command of a statement. `BadStatement` comes exactly where the bytes are none, and has the length of their
 /// longest prefix that begins one.

@@ -1,9 +1,9 @@
 // The parts of statements, and what their bytes are.
 ghost use Rattle.std.specs.Prelude.{◌≡◌, ℕ, ◌≤◌, List, ◌∷◌, length, drop, IfOk};
-ghost use Rattle.sml_syntax.specs.Spelling as spell;
-ghost use Rattle.sml_syntax.specs.Statements as statements;
+ghost use Rattle.sml_syntax.specs.ByteClasses as classes;
+ghost use Rattle.web_data.specs.Statements as statements;
 ghost use Rattle.db_text.specs.Reading as reading;
-ghost use Rattle.sml_syntax.specs.StatementReading.{Left, Spaces, Gap, Word, Name, Quoted, run};
+ghost use Rattle.web_data.specs.StatementReading.{Left, Spaces, Gap, Word, Name, Quoted, run};
 ghost use Rattle.db_text.specs.Reading.{left_of, ReadsPart};
 
 use sml_syntax::{NoMemory, Text};
@@ -67,7 +67,7 @@ fn small(b: u8) -> u8
 }
 
 fn is_letter(b: u8) -> bool
-    ensures { result ≡ spell.is_letter b }
+    ensures { result ≡ classes.is_letter b }
 {
     (b >= b'A' && b <= b'Z') || (b >= b'a' && b <= b'z')
 }
@@ -85,7 +85,7 @@ fn is_space_at(bytes: &[u8], at: usize) -> bool
 }
 
 fn is_letter_at(bytes: &[u8], at: usize) -> bool
-    ensures { result ≡ reading.stands_at spell.is_letter bytes.now at }
+    ensures { result ≡ reading.stands_at classes.is_letter bytes.now at }
 {
     at < bytes.len() && is_letter(bytes[at])
 }

@@ -1,6 +1,7 @@
 -- Expressions and declarations, side by side.
-use Rattle.std.proofs.Common.{ℕ, ◌+◌, true, false, List, [], ◌∷◌, ◌++◌, length, Option, Some, None, codes, refl, arith}
-use Rattle.std.specs.Str.{bytes_eq}
+use Rattle.std.proofs.Common.{ℕ, ◌+◌, Bool, true, false, List, [], ◌∷◌, ◌++◌, length, Option, Some, None, refl, arith}
+use Rattle.sml_syntax.specs.declared.constructor.Constructor.{Constructor}
+use Rattle.sml_syntax.specs.declared.constructor.Constructor.TheVariants as con
 use Rattle.sml_syntax.specs.declared.tree.Exp.{Exp}
 use Rattle.sml_syntax.specs.declared.tree.Dec.{Dec}
 use Rattle.sml_syntax.specs.declared.tree.Pat.{Pat}
@@ -9,202 +10,161 @@ use Rattle.sml_syntax.specs.declared.tree.Piece.{Piece, out-Piece}
 use Rattle.sml_syntax.specs.declared.tree.DecForm.{DecForm}
 use Rattle.sml_syntax.specs.declared.tree.ExpForm.{ExpForm}
 use Rattle.sml_syntax.specs.declared.tree.DecForm.TheOpen.{DecForm-F, ExpForm-F, Piece-F}
-use Rattle.sml_syntax.specs.declared.value.Value.{Value}
-use Rattle.sml_syntax.specs.declared.value.Closure.{Closure, out-Closure}
-use Rattle.sml_syntax.specs.declared.value.Bound.{Bound}
-use Rattle.sml_syntax.specs.declared.value.Bound.TheOpen.{Value-F, Bound-F}
-use Rattle.sml_syntax.specs.Layers.{ExpLayer, DecLayer, ValueLayer, form_of_dec, form_of_value}
-use Rattle.sml_syntax.specs.Values.{tuple_value, applied_value, ref_value, bool_value, Env}
-use Rattle.sml_syntax.specs.Outcome.{EvalState, Outcome, Done, Raised, then_do, counted}
-use Rattle.sml_syntax.specs.Evaluation.{Evaluator, Level, Plan, plan_of, Shows, meaning, opened, bound_result, functions_words, functions_bound, names_of, each_value, last_value, piece_value, each_piece, list_result, chosen, rules_result, match_failed, group_bound, constructed, application, by_bool, exp_result, bound_more, binding, with_binding, with_dec, datatypes_bound, exceptions_bound, Coming, Comes, Ends, coming, with_coming, scope_result}
-use Rattle.eval_laws.proofs.Relations.{R, Fine, fine, weaker, if_R, then_R, handled_R}
-use Rattle.eval_laws.proofs.Rows.{Compares, prim_R}
-use Rattle.eval_laws.proofs.Patterns.{Matches}
+use Rattle.sml_syntax.specs.Layers.{ExpLayer, DecLayer, form_of_dec}
+use Rattle.sml_evaluation.specs.declared.value.Value.{Value}
+use Rattle.sml_evaluation.specs.declared.value.Closure.{out-Closure}
+use Rattle.sml_evaluation.specs.declared.value.Bound.TheOpen.{Value-F, Bound-F}
+use Rattle.sml_evaluation.specs.ValueLayers.{ValueLayer, form_of_value}
+use Rattle.sml_evaluation.specs.Values.{tuple_value, antiquote_value, bool_value, same_con, Env, BoundLayer, opened}
+use Rattle.sml_evaluation.specs.RunState.{Done, Raised, then_do, counted}
+use Rattle.sml_evaluation.specs.Outcome.{State, Outcome}
+use Rattle.sml_evaluation.specs.Evaluation.{Evaluator, Level, Plan, plan_of, Shows, meaning, constructor_result, bound_result, functions_bound, each_value, last_value, piece_value, each_piece, list_result, chosen, rules_result, match_failed, group_bound, constructed, application, by_bool, exp_result, bound_more, binding, with_binding, with_dec, datatypes_bound, exceptions_bound, Coming, Comes, Ends, coming, with_coming, scope_result}
+use Rattle.eval_laws.proofs.Relations.{Mode, Higher, along, Onward, on, stays, R, done, raised, done_here, waits_here, weaker, if_R}
+use Rattle.eval_laws.proofs.Rows.{S, Steady, prim_R}
+use Rattle.eval_laws.proofs.Walks.{Evaluates, Walk, then_W, handled_W, then_S, comparings, each_value_R}
 
-abbrev pub Evaluates : ℕ → Evaluator → Evaluator → Type 0
-Evaluates k part other = (env : Env) (s : EvalState) (e : Exp) → R k s.count (part env s e) (other env s e)
+-- the parts of a level
+parts_R : (w : Walk) (env : Env) (s : State) (es : List Exp) → S w.m s (each_value w.l.exp env s es) (each_value w.h.exp env (along w.m s) es)
+parts_R w env s es = each_value_R w.l.exp w.h.exp w.both.exp w.grows.exp env s es
 
--- two levels side by side
-pub record Levels (k : ℕ) (l h : Level) : Type 0 where
-  pub exp : Evaluates k l.exp h.exp
-  pub pat : Matches k l.pat h.pat
-  pub same : Compares k l.same h.same
-  pub scope : (outer env : Env) (s : EvalState) (bindings : List (Pat × Exp)) (plan : Plan) → R k s.count (l.scope outer env s bindings plan) (h.scope outer env s bindings plan)
+last_steady : (vs : List Value) → Steady (last_value vs)
+last_steady [] m s = waits_here
+last_steady (v ∷ []) m s = done_here
+last_steady (v ∷ u ∷ vs) m s = last_steady (u ∷ vs) m s
 
-abbrev V : Type 0
-V = Outcome Value
+piece_R : (w : Walk) (env : Env) (s : State) (p : Piece-F DecForm ExpForm Piece Dec Exp Rule) → S w.m s (piece_value w.l.exp env s p) (piece_value w.h.exp env (along w.m s) p)
+piece_R w env s (Piece-F.Plain bytes) = done (on (omega arith) refl)
+piece_R w env s (Piece-F.Anti e) = then_S (λ v s1. Done (antiquote_value v) (counted 2 s1)) (w.both.exp env s e) (λ k v s1. done (on (omega arith) refl))
 
--- an outcome that is there on both sides, with more counted
-done_R : {A : Type 0} (k c : ℕ) (a : A) (s : EvalState) → R k s.count (Done a (counted c s)) (Done a (counted c s))
-done_R k c a s = (omega arith, omega arith, refl)
+each_piece_R : (w : Walk) (env : Env) (s : State) (ps : List Piece) → S w.m s (each_piece w.l.exp env s ps) (each_piece w.h.exp env (along w.m s) ps)
+each_piece_R w env s [] = done_here
+each_piece_R w env s (p ∷ ps) =
+    then_W w (λ l v s1. then_do (each_piece l.exp env s1 ps) (λ vs s2. Done (v ∷ vs) s2)) (piece_R w env s (out-Piece p))
+    (λ x v s1. then_S (λ vs s2. Done (v ∷ vs) s2) (each_piece_R x env s1 ps) (λ k vs s2. done_here))
 
-pub done_as_R : {A : Type 0} (k : ℕ) (a : A) (s : EvalState) → R k s.count (Done a s) (Done a s)
-done_as_R k a s = (omega arith, omega arith, refl)
+list_steady : (vs : List Value) → Steady (list_result vs)
+list_steady vs m s = done (on (omega arith) refl)
 
-pub each_value_R : (k : ℕ) (part other : Evaluator) → Evaluates k part other → (env : Env) (s : EvalState) (es : List Exp) → R k s.count (each_value part env s es) (each_value other env s es)
-each_value_R k part other h env s [] = done_as_R k [] s
-each_value_R k part other h env s (e ∷ es) =
-    then_R k s.count (part env s e) (other env s e) (λ v s1. then_do (each_value part env s1 es) (λ vs s2. Done (v ∷ vs) s2)) (λ v s1. then_do (each_value other env s1 es) (λ vs s2. Done (v ∷ vs) s2)) (h env s e)
-    (λ v s1. then_R k s1.count (each_value part env s1 es) (each_value other env s1 es) (λ vs s2. Done (v ∷ vs) s2) (λ vs s2. Done (v ∷ vs) s2) (each_value_R k part other h env s1 es) (λ vs s2. done_as_R k (v ∷ vs) s2))
+constructor_steady : (c : Constructor) → Steady (constructor_result c)
+constructor_steady (con.Data d i) m s = done_here
+constructor_steady (con.Exn number) m s = done (on (omega arith) refl)
+constructor_steady con.Ref m s = waits_here
 
-last_fine : (vs : List Value) (s : EvalState) → Fine s.count (last_value vs s)
-last_fine [] s = omega arith
-last_fine (v ∷ []) s = omega arith
-last_fine (v ∷ w ∷ vs) s = last_fine (w ∷ vs) s
-
-last_R : (k : ℕ) (vs : List Value) (s : EvalState) → R k s.count (last_value vs s) (last_value vs s)
-last_R k vs s = fine k s.count (last_value vs s) (last_fine vs s)
-
-piece_R : (k : ℕ) (part other : Evaluator) → Evaluates k part other → (env : Env) (s : EvalState) (p : Piece-F DecForm ExpForm Piece Dec Exp Rule) → R k s.count (piece_value part env s p) (piece_value other env s p)
-piece_R k part other h env s (Piece-F.Plain bytes) = (omega arith, omega arith, refl)
-piece_R k part other h env s (Piece-F.Anti e) =
-    then_R k s.count (part env s e) (other env s e) (λ v s1. Done (applied_value (codes "ANTIQUOTE") v) (counted 2 s1)) (λ v s1. Done (applied_value (codes "ANTIQUOTE") v) (counted 2 s1)) (h env s e)
-    (λ v s1. (omega arith, omega arith, refl))
-
-each_piece_R : (k : ℕ) (part other : Evaluator) → Evaluates k part other → (env : Env) (s : EvalState) (ps : List Piece) → R k s.count (each_piece part env s ps) (each_piece other env s ps)
-each_piece_R k part other h env s [] = done_as_R k [] s
-each_piece_R k part other h env s (p ∷ ps) =
-    then_R k s.count (piece_value part env s (out-Piece p)) (piece_value other env s (out-Piece p)) (λ v s1. then_do (each_piece part env s1 ps) (λ vs s2. Done (v ∷ vs) s2)) (λ v s1. then_do (each_piece other env s1 ps) (λ vs s2. Done (v ∷ vs) s2))
-    (piece_R k part other h env s (out-Piece p))
-    (λ v s1. then_R k s1.count (each_piece part env s1 ps) (each_piece other env s1 ps) (λ vs s2. Done (v ∷ vs) s2) (λ vs s2. Done (v ∷ vs) s2) (each_piece_R k part other h env s1 ps) (λ vs s2. done_as_R k (v ∷ vs) s2))
-
-list_R : (k : ℕ) (vs : List Value) (s : EvalState) → R k s.count (list_result vs s) (list_result vs s)
-list_R k vs s = (omega arith, omega arith, refl)
-
-bound_fine : (name : List ℕ) (b : Option (Bound-F Bound Value Closure)) (s : EvalState) → Fine s.count (bound_result name b s)
-bound_fine name None s = omega arith
-bound_fine name (Some (Bound-F.Variable v)) s = omega arith
-bound_fine name (Some (Bound-F.Constructor has_argument)) s = omega arith
-bound_fine name (Some (Bound-F.Exception number has_argument)) s = omega arith
+bound_steady : (b : Option BoundLayer) → Steady (bound_result b)
+bound_steady None m s = waits_here
+bound_steady (Some (Bound-F.Variable v)) m s = done_here
+bound_steady (Some (Bound-F.Constructor c false)) m s = constructor_steady c m s
+bound_steady (Some (Bound-F.Constructor c true)) m s = done_here
 
 -- ---- matches and applications
 
-abbrev Continues : ℕ → (EvalState → V) → (EvalState → V) → Type 0
-Continues k f g = (s : EvalState) → R k s.count (f s) (g s)
+-- what is done at each level
+abbrev Continues : (Level → State → Outcome Value) → Type 0
+Continues f = (x : Walk) (s : State) → S x.m s (f x.l s) (f x.h (along x.m s))
 
-chosen_R : (k : ℕ) (l h : Level) → Levels k l h → (env : Env) (body : Exp) (more : Option Env) (f g : EvalState → V) → Continues k f g → (s : EvalState) → R k s.count (chosen l env body more f s) (chosen h env body more g s)
-chosen_R k l h r env body None f g c s = c s
-chosen_R k l h r env body (Some more) f g c s = r.exp (more ++ env) s body
+chosen_R : (w : Walk) (env : Env) (body : Exp) (more : Option Env) (f : Level → State → Outcome Value) → Continues f → (s : State) → S w.m s (chosen w.l env body more (f w.l) s) (chosen w.h env body more (f w.h) (along w.m s))
+chosen_R w env body None f c s = c w s
+chosen_R w env body (Some more) f c s = w.both.exp (more ++ env) s body
 
-rules_R : (k : ℕ) (l h : Level) → Levels k l h → (env : Env) (s : EvalState) (rules : List Rule) (v : Value) (f g : EvalState → V) → Continues k f g → R k s.count (rules_result l env s rules v f) (rules_result h env s rules v g)
-rules_R k l h r env s [] v f g c = c s
-rules_R k l h r env s (rule ∷ rules) v f g c =
-    then_R k s.count (l.pat env (counted 1 s) (out-Rule rule).pat v) (h.pat env (counted 1 s) (out-Rule rule).pat v)
-    (λ more s1. chosen l env (out-Rule rule).body more (λ s2. rules_result l env s2 rules v f) s1) (λ more s1. chosen h env (out-Rule rule).body more (λ s2. rules_result h env s2 rules v g) s1)
-    (weaker k s.count (s.count + 1) (l.pat env (counted 1 s) (out-Rule rule).pat v) (h.pat env (counted 1 s) (out-Rule rule).pat v) (omega arith) (r.pat env (counted 1 s) (out-Rule rule).pat v))
-    (λ more s1. chosen_R k l h r env (out-Rule rule).body more (λ s2. rules_result l env s2 rules v f) (λ s2. rules_result h env s2 rules v g) (λ s2. rules_R k l h r env s2 rules v f g c) s1)
+rules_R : (w : Walk) (env : Env) (s : State) (rules : List Rule) (v : Value) (f : Level → State → Outcome Value) → Continues f → S w.m s (rules_result w.l env s rules v (f w.l)) (rules_result w.h env (along w.m s) rules v (f w.h))
+rules_R w env s [] v f c = c w s
+rules_R w env s (rule ∷ rules) v f c =
+    then_W w (λ l more s1. chosen l env (out-Rule rule).body more (λ s2. rules_result l env s2 rules v (f l)) s1)
+    (weaker (on (omega arith) refl) (w.both.pat env (counted 1 s) (out-Rule rule).pat v))
+    (λ x more s1. chosen_R x env (out-Rule rule).body more (λ l s2. rules_result l env s2 rules v (f l)) (λ y s2. rules_R y env s2 rules v f c) s1)
 
-match_failed_R : (k : ℕ) → Continues k match_failed match_failed
-match_failed_R k s = (omega arith, omega arith, refl)
+match_failed_R : Continues (λ l. match_failed)
+match_failed_R x s = raised (on (omega arith) refl)
 
-constructed_R : (k : ℕ) (name : List ℕ) (v : Value) (s : EvalState) → R k s.count (constructed name v s) (constructed name v s)
-constructed_R k name v s =
-    if_R k s.count (bytes_eq name (codes "ref")) (Done (ref_value (length s.references)) (counted 1 (record s { references = s.references ++ v ∷ [] }))) (Done (applied_value name v) (counted 2 s))
-    (Done (ref_value (length s.references)) (counted 1 (record s { references = s.references ++ v ∷ [] }))) (Done (applied_value name v) (counted 2 s))
-    (omega arith, omega arith, refl) (omega arith, omega arith, refl)
+constructed_steady : (c : Constructor) (v : Value) → Steady (constructed c v)
+constructed_steady (con.Data d i) v m s = done (on (omega arith) refl)
+constructed_steady (con.Exn number) v m s = done (on (omega arith) refl)
+constructed_steady con.Ref v m s = done (on (omega arith) refl)
 
-application_R : (k : ℕ) (l h : Level) → Levels k l h → (g : ValueLayer) (v : Value) (s : EvalState) → R k s.count (application l g v s) (application h g v s)
-application_R k l h r (Value-F.Prim name arguments) v s = prim_R k l.same h.same r.same name arguments v s
-application_R k l h r (Value-F.Con name None) v s = constructed_R k name v s
-application_R k l h r (Value-F.Exn number name None) v s = (omega arith, omega arith, refl)
-application_R k l h r (Value-F.Fun closure) v s =
-    rules_R k l h r (group_bound (out-Closure closure).group (out-Closure closure).env (out-Closure closure).group ++ (out-Closure closure).env) s (out-Closure closure).rules v match_failed match_failed (match_failed_R k)
-application_R k l h r _ v s = (omega arith, omega arith, refl)
+application_R : (w : Walk) (g : ValueLayer) (v : Value) (s : State) → S w.m s (application w.l g v s) (application w.h g v (along w.m s))
+application_R w (Value-F.Prim name arguments) v s = prim_R w.l.same w.h.same (comparings w) name arguments v s
+application_R w (Value-F.Maker c) v s = constructed_steady c v w.m s
+application_R w (Value-F.Fun closure) v s =
+    rules_R w (group_bound (out-Closure closure).group (out-Closure closure).env (out-Closure closure).group ++ (out-Closure closure).env) s (out-Closure closure).rules v (λ l. match_failed) match_failed_R
+application_R w _ v s = waits_here
 
 -- ---- expressions
 
-by_bool_R : (k : ℕ) (v : ValueLayer) (f g f1 g1 : EvalState → V) → Continues k f f1 → Continues k g g1 → (s : EvalState) → R k s.count (by_bool v f g s) (by_bool v f1 g1 s)
-by_bool_R k (Value-F.Con name None) f g f1 g1 c d s = if_R k s.count (bytes_eq name (codes "true")) (f s) (g s) (f1 s) (g1 s) (c s) (d s)
-by_bool_R k _ f g f1 g1 c d s = (omega arith, omega arith, refl)
+by_bool_R : (w : Walk) (v : ValueLayer) (f g : Level → State → Outcome Value) → Continues f → Continues g → (s : State) → S w.m s (by_bool v (f w.l) (g w.l) s) (by_bool v (f w.h) (g w.h) (along w.m s))
+by_bool_R w (Value-F.Con d i) f g c k s = if_R (same_con d i 0 1) (c w s) (k w s)
+by_bool_R w _ f g c k s = waits_here
 
-pub exp_R : (k : ℕ) (l h : Level) → Levels k l h → (env : Env) (s : EvalState) (e : ExpLayer) → R k s.count (exp_result l env s e) (exp_result h env s e)
-exp_R k l h r env s (ExpForm-F.Int n) = (omega arith, omega arith, refl)
-exp_R k l h r env s (ExpForm-F.Char c) = (omega arith, omega arith, refl)
-exp_R k l h r env s (ExpForm-F.Str bytes) = (omega arith, omega arith, refl)
-exp_R k l h r env s (ExpForm-F.Name name) = fine k s.count (bound_result name (opened (meaning name env)) s) (bound_fine name (opened (meaning name env)) s)
-exp_R k l h r env s ExpForm-F.Unit = (omega arith, omega arith, refl)
-exp_R k l h r env s (ExpForm-F.Tuple es) =
-    then_R k s.count (each_value l.exp env s es) (each_value h.exp env s es) (λ vs s1. Done (tuple_value vs) (counted (length vs) s1)) (λ vs s1. Done (tuple_value vs) (counted (length vs) s1))
-    (each_value_R k l.exp h.exp r.exp env s es) (λ vs s1. done_R k (length vs) (tuple_value vs) s1)
-exp_R k l h r env s (ExpForm-F.List es) = then_R k s.count (each_value l.exp env s es) (each_value h.exp env s es) list_result list_result (each_value_R k l.exp h.exp r.exp env s es) (list_R k)
-exp_R k l h r env s (ExpForm-F.Seq es) = then_R k s.count (each_value l.exp env s es) (each_value h.exp env s es) last_value last_value (each_value_R k l.exp h.exp r.exp env s es) (last_R k)
-exp_R k l h r env s (ExpForm-F.App f e) =
-    then_R k s.count (l.exp env s f) (h.exp env s f) (λ g s1. then_do (l.exp env s1 e) (λ v s2. application l (form_of_value g) v (counted 1 s2))) (λ g s1. then_do (h.exp env s1 e) (λ v s2. application h (form_of_value g) v (counted 1 s2))) (r.exp env s f)
-    (λ g s1. then_R k s1.count (l.exp env s1 e) (h.exp env s1 e) (λ v s2. application l (form_of_value g) v (counted 1 s2)) (λ v s2. application h (form_of_value g) v (counted 1 s2)) (r.exp env s1 e)
-    (λ v s2. weaker k s2.count (s2.count + 1) (application l (form_of_value g) v (counted 1 s2)) (application h (form_of_value g) v (counted 1 s2)) (omega arith) (application_R k l h r (form_of_value g) v (counted 1 s2))))
-exp_R k l h r env s (ExpForm-F.Let ds es) =
-    then_R k s.count (l.scope env env s [] (plan_of ds [] es)) (h.scope env env s [] (plan_of ds [] es)) (λ x s1. last_value x.1 s1) (λ x s1. last_value x.1 s1) (r.scope env env s [] (plan_of ds [] es)) (λ x s1. last_R k x.1 s1)
-exp_R k l h r env s (ExpForm-F.Fn rules) = (omega arith, omega arith, refl)
-exp_R k l h r env s (ExpForm-F.Case e rules) =
-    then_R k s.count (l.exp env s e) (h.exp env s e) (λ v s1. rules_result l env s1 rules v match_failed) (λ v s1. rules_result h env s1 rules v match_failed) (r.exp env s e)
-    (λ v s1. rules_R k l h r env s1 rules v match_failed match_failed (match_failed_R k))
-exp_R k l h r env s (ExpForm-F.Handle e rules) =
-    handled_R k s.count (l.exp env s e) (h.exp env s e) (λ p s1. rules_result l env s1 rules p (λ s2. Raised p s2)) (λ p s1. rules_result h env s1 rules p (λ s2. Raised p s2)) (r.exp env s e)
-    (λ p s1. rules_R k l h r env s1 rules p (λ s2. Raised p s2) (λ s2. Raised p s2) (λ s2. (omega arith, omega arith, refl)))
-exp_R k l h r env s (ExpForm-F.Raise e) =
-    then_R k s.count (l.exp env s e) (h.exp env s e) (λ p s1. Raised p s1) (λ p s1. Raised p s1) (r.exp env s e) (λ p s1. (omega arith, omega arith, refl))
-exp_R k l h r env s (ExpForm-F.If test first second) =
-    then_R k s.count (l.exp env s test) (h.exp env s test) (λ v s1. by_bool (form_of_value v) (λ s2. l.exp env s2 first) (λ s2. l.exp env s2 second) s1) (λ v s1. by_bool (form_of_value v) (λ s2. h.exp env s2 first) (λ s2. h.exp env s2 second) s1) (r.exp env s test)
-    (λ v s1. by_bool_R k (form_of_value v) (λ s2. l.exp env s2 first) (λ s2. l.exp env s2 second) (λ s2. h.exp env s2 first) (λ s2. h.exp env s2 second) (λ s2. r.exp env s2 first) (λ s2. r.exp env s2 second) s1)
-exp_R k l h r env s (ExpForm-F.Both left right) =
-    then_R k s.count (l.exp env s left) (h.exp env s left) (λ v s1. by_bool (form_of_value v) (λ s2. l.exp env s2 right) (λ s2. Done (bool_value false) s2) s1) (λ v s1. by_bool (form_of_value v) (λ s2. h.exp env s2 right) (λ s2. Done (bool_value false) s2) s1) (r.exp env s left)
-    (λ v s1. by_bool_R k (form_of_value v) (λ s2. l.exp env s2 right) (λ s2. Done (bool_value false) s2) (λ s2. h.exp env s2 right) (λ s2. Done (bool_value false) s2) (λ s2. r.exp env s2 right) (λ s2. done_as_R k (bool_value false) s2) s1)
-exp_R k l h r env s (ExpForm-F.Either left right) =
-    then_R k s.count (l.exp env s left) (h.exp env s left) (λ v s1. by_bool (form_of_value v) (λ s2. Done (bool_value true) s2) (λ s2. l.exp env s2 right) s1) (λ v s1. by_bool (form_of_value v) (λ s2. Done (bool_value true) s2) (λ s2. h.exp env s2 right) s1) (r.exp env s left)
-    (λ v s1. by_bool_R k (form_of_value v) (λ s2. Done (bool_value true) s2) (λ s2. l.exp env s2 right) (λ s2. Done (bool_value true) s2) (λ s2. h.exp env s2 right) (λ s2. done_as_R k (bool_value true) s2) (λ s2. r.exp env s2 right) s1)
-exp_R k l h r env s (ExpForm-F.Quote pieces) = then_R k s.count (each_piece l.exp env s pieces) (each_piece h.exp env s pieces) list_result list_result (each_piece_R k l.exp h.exp r.exp env s pieces) (list_R k)
-exp_R k l h r env s (ExpForm-F.Typed e t) = r.exp env s e
+pub exp_R : (w : Walk) (env : Env) (s : State) (e : ExpLayer) → S w.m s (exp_result w.l env s e) (exp_result w.h env (along w.m s) e)
+exp_R w env s (ExpForm-F.Int n) = done_here
+exp_R w env s (ExpForm-F.Char c) = done_here
+exp_R w env s (ExpForm-F.Str bytes) = done (on (omega arith) refl)
+exp_R w env s (ExpForm-F.Name name) = bound_steady (opened (meaning name env)) w.m s
+exp_R w env s ExpForm-F.Unit = done_here
+exp_R w env s (ExpForm-F.Tuple es) = then_S (λ vs s1. Done (tuple_value vs) (counted (length vs) s1)) (parts_R w env s es) (λ k vs s1. done (on (omega arith) refl))
+exp_R w env s (ExpForm-F.List es) = then_S list_result (parts_R w env s es) (λ k vs s1. list_steady vs k s1)
+exp_R w env s (ExpForm-F.Seq es) = then_S last_value (parts_R w env s es) (λ k vs s1. last_steady vs k s1)
+exp_R w env s (ExpForm-F.App f e) =
+    then_W w (λ l g s1. then_do (l.exp env s1 e) (λ v s2. application l (form_of_value g) v (counted 1 s2))) (w.both.exp env s f)
+    (λ x g s1. then_W x (λ l v s2. application l (form_of_value g) v (counted 1 s2)) (x.both.exp env s1 e)
+    (λ y v s2. weaker (on (omega arith) refl) (application_R y (form_of_value g) v (counted 1 s2))))
+exp_R w env s (ExpForm-F.Let ds es) = then_S (λ (x : Env × List Value) s1. last_value x.1 s1) (w.both.scope env env s [] (plan_of ds [] es)) (λ k x s1. last_steady x.1 k s1)
+exp_R w env s (ExpForm-F.Fn rules) = done_here
+exp_R w env s (ExpForm-F.Case e rules) =
+    then_W w (λ l v s1. rules_result l env s1 rules v match_failed) (w.both.exp env s e) (λ x v s1. rules_R x env s1 rules v (λ l. match_failed) match_failed_R)
+exp_R w env s (ExpForm-F.Handle e rules) =
+    handled_W w (λ l p s1. rules_result l env s1 rules p (λ s2. Raised p s2)) (w.both.exp env s e)
+    (λ x p s1. rules_R x env s1 rules p (λ l s2. Raised p s2) (λ y s2. raised (stays s2)))
+exp_R w env s (ExpForm-F.Raise e) = then_S (λ p s1. Raised p s1) (w.both.exp env s e) (λ k p s1. raised (stays s1))
+exp_R w env s (ExpForm-F.If test first second) =
+    then_W w (λ l v s1. by_bool (form_of_value v) (λ s2. l.exp env s2 first) (λ s2. l.exp env s2 second) s1) (w.both.exp env s test)
+    (λ x v s1. by_bool_R x (form_of_value v) (λ l s2. l.exp env s2 first) (λ l s2. l.exp env s2 second) (λ y s2. y.both.exp env s2 first) (λ y s2. y.both.exp env s2 second) s1)
+exp_R w env s (ExpForm-F.Both left right) =
+    then_W w (λ l v s1. by_bool (form_of_value v) (λ s2. l.exp env s2 right) (λ s2. Done (bool_value false) s2) s1) (w.both.exp env s left)
+    (λ x v s1. by_bool_R x (form_of_value v) (λ l s2. l.exp env s2 right) (λ l s2. Done (bool_value false) s2) (λ y s2. y.both.exp env s2 right) (λ y s2. done_here) s1)
+exp_R w env s (ExpForm-F.Either left right) =
+    then_W w (λ l v s1. by_bool (form_of_value v) (λ s2. Done (bool_value true) s2) (λ s2. l.exp env s2 right) s1) (w.both.exp env s left)
+    (λ x v s1. by_bool_R x (form_of_value v) (λ l s2. Done (bool_value true) s2) (λ l s2. l.exp env s2 right) (λ y s2. done_here) (λ y s2. y.both.exp env s2 right) s1)
+exp_R w env s (ExpForm-F.Quote pieces) = then_S list_result (each_piece_R w env s pieces) (λ k vs s1. list_steady vs k s1)
+exp_R w env s (ExpForm-F.Typed e t) = w.both.exp env s e
 
 -- ---- declarations
 
-bound_more_R : (k : ℕ) (env : Env) (more : Option Env) (s : EvalState) → R k s.count (bound_more env more s) (bound_more env more s)
-bound_more_R k env None s = (omega arith, omega arith, refl)
-bound_more_R k env (Some more) s = (omega arith, omega arith, refl)
+bound_more_steady : (env : Env) (more : Option Env) → Steady (bound_more env more)
+bound_more_steady env None m s = raised (on (omega arith) refl)
+bound_more_steady env (Some more) m s = done_here
 
-binding_R : (k : ℕ) (l h : Level) → Levels k l h → (outer env : Env) (s : EvalState) (bind : Pat × Exp) → R k s.count (binding l outer env s bind) (binding h outer env s bind)
-binding_R k l h r outer env s bind =
-    then_R k s.count (l.exp outer s bind.1) (h.exp outer s bind.1) (λ v s1. then_do (l.pat outer s1 bind.0 v) (λ more s2. bound_more env more s2)) (λ v s1. then_do (h.pat outer s1 bind.0 v) (λ more s2. bound_more env more s2)) (r.exp outer s bind.1)
-    (λ v s1. then_R k s1.count (l.pat outer s1 bind.0 v) (h.pat outer s1 bind.0 v) (λ more s2. bound_more env more s2) (λ more s2. bound_more env more s2) (r.pat outer s1 bind.0 v) (λ more s2. bound_more_R k env more s2))
+binding_R : (w : Walk) (outer env : Env) (s : State) (bind : Pat × Exp) → S w.m s (binding w.l outer env s bind) (binding w.h outer env (along w.m s) bind)
+binding_R w outer env s bind =
+    then_W w (λ l v s1. then_do (l.pat outer s1 bind.0 v) (λ more s2. bound_more env more s2)) (w.both.exp outer s bind.1)
+    (λ x v s1. then_S (λ more s2. bound_more env more s2) (x.both.pat outer s1 bind.0 v) (λ k more s2. bound_more_steady env more k s2))
 
-with_binding_R : (k : ℕ) (l h : Level) → Levels k l h → (outer env : Env) (s : EvalState) (bind : Pat × Exp) (bindings : List (Pat × Exp)) (plan : Plan) → R k (s.count + 1) (with_binding l outer env s bind bindings plan) (with_binding h outer env s bind bindings plan)
-with_binding_R k l h r outer env s bind bindings plan =
-    then_R k (s.count + 1) (binding l outer env (counted 1 s) bind) (binding h outer env (counted 1 s) bind) (λ env1 s1. l.scope outer env1 s1 bindings plan) (λ env1 s1. h.scope outer env1 s1 bindings plan)
-    (binding_R k l h r outer env (counted 1 s) bind) (λ env1 s1. r.scope outer env1 s1 bindings plan)
+-- the bindings at hand, with the first of them counted
+pub binding_starts : (w : Walk) (outer env : Env) (s : State) (bind : Pat × Exp) (bindings : List (Pat × Exp)) (plan : Plan)
+    → S w.m (counted 1 s) (with_binding w.l outer env s bind bindings plan) (with_binding w.h outer env (along w.m s) bind bindings plan)
+binding_starts w outer env s bind bindings plan =
+    then_W w (λ l env1 s1. l.scope outer env1 s1 bindings plan) (binding_R w outer env (counted 1 s) bind) (λ x env1 s1. x.both.scope outer env1 s1 bindings plan)
 
-with_dec_R : (k : ℕ) (l h : Level) → Levels k l h → (env : Env) (s : EvalState) (d : DecLayer) (plan : Plan) → R k s.count (with_dec l env s d plan) (with_dec h env s d plan)
-with_dec_R k l h r env s (DecForm-F.Val []) plan = (omega arith, omega arith, refl)
-with_dec_R k l h r env s (DecForm-F.Val (bind ∷ bindings)) plan =
-    weaker k s.count (s.count + 1) (with_binding l env env s bind bindings plan) (with_binding h env env s bind bindings plan) (omega arith) (with_binding_R k l h r env env s bind bindings plan)
-with_dec_R k l h r env s (DecForm-F.ValRec fs) plan =
-    let c : ℕ = functions_words fs (names_of fs) env in
-    weaker k s.count (s.count + c) (l.scope env (functions_bound fs env ++ env) (counted c s) [] plan) (h.scope env (functions_bound fs env ++ env) (counted c s) [] plan) (omega arith)
-    (r.scope env (functions_bound fs env ++ env) (counted c s) [] plan)
-with_dec_R k l h r env s (DecForm-F.Abbrev ts) plan = r.scope env env s [] plan
-with_dec_R k l h r env s (DecForm-F.DataDef ds) plan = r.scope env (datatypes_bound ds ++ env) s [] plan
-with_dec_R k l h r env s (DecForm-F.ExnDef es) plan = r.scope env (exceptions_bound es env) s [] plan
-with_dec_R k l h r env s (DecForm-F.Local hidden shown) plan = r.scope env env s [] (plan_of hidden (Shows shown env plan.decs ∷ plan.pending) plan.body)
+pub dec_R : (w : Walk) (env : Env) (s : State) (d : DecLayer) (plan : Plan) → S w.m s (with_dec w.l env s d plan) (with_dec w.h env (along w.m s) d plan)
+dec_R w env s (DecForm-F.Val []) plan = waits_here
+dec_R w env s (DecForm-F.Val (bind ∷ bindings)) plan = weaker (on (omega arith) refl) (binding_starts w env env s bind bindings plan)
+dec_R w env s (DecForm-F.ValRec fs) plan = w.both.scope env (functions_bound fs env ++ env) s [] plan
+dec_R w env s (DecForm-F.Abbrev ts) plan = w.both.scope env env s [] plan
+dec_R w env s (DecForm-F.DataDef ds) plan = w.both.scope env (datatypes_bound ds env) s [] plan
+dec_R w env s (DecForm-F.ExnDef es) plan = w.both.scope env (exceptions_bound es env) s [] plan
+dec_R w env s (DecForm-F.Local hidden shown) plan = w.both.scope env env s [] (plan_of hidden (Shows shown env plan.decs ∷ plan.pending) plan.body)
 
 abbrev DecStep : Type 0
-DecStep = Env → EvalState → DecLayer → Plan → Outcome (Env × List Value)
+DecStep = Env → State → DecLayer → Plan → Outcome (Env × List Value)
 
-pub with_coming_R : (k : ℕ) (part other : Evaluator) → Evaluates k part other → (f g : DecStep) → ((env : Env) (s : EvalState) (d : Dec) (plan : Plan) → R k s.count (f env (counted 1 s) (form_of_dec d) plan) (g env (counted 1 s) (form_of_dec d) plan)) → (s : EvalState) (body : List Exp) (c : Coming)
-    → R k s.count (with_coming part f s body c) (with_coming other g s body c)
-with_coming_R k part other h f g step s body (Comes env d plan) = step env s d plan
-with_coming_R k part other h f g step s body (Ends env) =
-    then_R k s.count (each_value part env s body) (each_value other env s body) (λ vs s1. Done (env, vs) s1) (λ vs s1. Done (env, vs) s1) (each_value_R k part other h env s body) (λ vs s1. done_as_R k (env, vs) s1)
+pub with_coming_R : {m : Mode} (part other : Evaluator) → Evaluates m part other → Evaluates (Higher 0) other other → (f g : DecStep)
+    → ((env : Env) (s : State) (d : Dec) (plan : Plan) → S m s (f env (counted 1 s) (form_of_dec d) plan) (g env (counted 1 (along m s)) (form_of_dec d) plan)) → (s : State) (body : List Exp) (c : Coming)
+    → S m s (with_coming part f s body c) (with_coming other g (along m s) body c)
+with_coming_R part other h k f g step s body (Comes env d plan) = step env s d plan
+with_coming_R part other h k f g step s body (Ends env) = then_S (λ vs s1. Done (env, vs) s1) (each_value_R part other h k env s body) (λ i vs s1. done_here)
 
-pub scope_R : (k : ℕ) (l h : Level) → Levels k l h → (part other : Evaluator) → Evaluates k part other → (outer env : Env) (s : EvalState) (bindings : List (Pat × Exp)) (plan : Plan)
-    → R k s.count (scope_result part l outer env s bindings plan) (scope_result other h outer env s bindings plan)
-scope_R k l h r part other p outer env s (bind ∷ bindings) plan =
-    weaker k s.count (s.count + 1) (with_binding l outer env s bind bindings plan) (with_binding h outer env s bind bindings plan) (omega arith) (with_binding_R k l h r outer env s bind bindings plan)
-scope_R k l h r part other p outer env s [] plan =
-    with_coming_R k part other p (with_dec l) (with_dec h)
-    (λ env1 s1 d plan1. weaker k s1.count (s1.count + 1) (with_dec l env1 (counted 1 s1) (form_of_dec d) plan1) (with_dec h env1 (counted 1 s1) (form_of_dec d) plan1) (omega arith) (with_dec_R k l h r env1 (counted 1 s1) (form_of_dec d) plan1))
+pub scope_R : (w : Walk) (part other : Evaluator) → Evaluates w.m part other → Evaluates (Higher 0) other other → (outer env : Env) (s : State) (bindings : List (Pat × Exp)) (plan : Plan)
+    → S w.m s (scope_result part w.l outer env s bindings plan) (scope_result other w.h outer env (along w.m s) bindings plan)
+scope_R w part other p q outer env s (bind ∷ bindings) plan = weaker (on (omega arith) refl) (binding_starts w outer env s bind bindings plan)
+scope_R w part other p q outer env s [] plan =
+    with_coming_R part other p q (with_dec w.l) (with_dec w.h) (λ env1 s1 d plan1. weaker (on (omega arith) refl) (dec_R w env1 (counted 1 s1) (form_of_dec d) plan1))
     s plan.body (coming env plan.decs plan.pending plan.body)
-
--- the same, with what it begins with counted: the bindings at hand or the next declaration
-pub binding_starts : (k : ℕ) (l h : Level) → Levels k l h → (outer env : Env) (s : EvalState) (bind : Pat × Exp) (bindings : List (Pat × Exp)) (plan : Plan) → R k (s.count + 1) (with_binding l outer env s bind bindings plan) (with_binding h outer env s bind bindings plan)
-binding_starts = with_binding_R
-
-pub dec_starts : (k : ℕ) (l h : Level) → Levels k l h → (env : Env) (s : EvalState) (d : DecLayer) (plan : Plan) → R k (s.count + 1) (with_dec l env (counted 1 s) d plan) (with_dec h env (counted 1 s) d plan)
-dec_starts k l h r env s d plan = with_dec_R k l h r env (counted 1 s) d plan

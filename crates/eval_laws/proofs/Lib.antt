@@ -1,8 +1,10 @@
 pub mod Relations
 pub mod Rows
+pub mod Walks
 pub mod Patterns
 pub mod Expressions
 pub mod Levels
-pub mod UsedNames
-pub mod Square
+pub mod PlainValues
+pub mod StandingNames
 pub mod HeldNames
+pub mod Square

@@ -2,143 +2,128 @@
 use Rattle.std.proofs.Common.{ℕ, Bool, true, false, List, [], ◌∷◌, Option, Some, None, refl, arith}
 use Rattle.std.specs.Prelude.{slice_get, ◌==◌}
 use Rattle.std.specs.Str.{bytes_eq}
+use Rattle.sml_syntax.specs.declared.constructor.Constructor.{Constructor}
+use Rattle.sml_syntax.specs.declared.constructor.Constructor.TheVariants as con
 use Rattle.sml_syntax.specs.declared.tree.Pat.{Pat}
 use Rattle.sml_syntax.specs.declared.tree.PatForm.TheOpen.{PatForm-F}
-use Rattle.sml_syntax.specs.declared.value.Value.{Value}
-use Rattle.sml_syntax.specs.declared.value.Closure.{Closure}
-use Rattle.sml_syntax.specs.declared.value.Bound.{Bound}
-use Rattle.sml_syntax.specs.declared.value.Bound.TheOpen.{Value-F, Bound-F}
-use Rattle.sml_syntax.specs.Layers.{PatLayer, ValueLayer, form_of_value}
-use Rattle.sml_syntax.specs.Values.{text_size, Env}
-use Rattle.sml_syntax.specs.Outcome.{EvalState, Outcome, Done, Waits, counted}
-use Rattle.sml_syntax.specs.Evaluation.{Matcher, fits_if, name_result, joined, and_more, each_match, cell_match, list_match, argument_match, held_match, applied_match, constant_match, tuple_match, pat_result, same_int, opened, meaning, and_same, each_same, arguments_same, same_result}
-use Rattle.eval_laws.proofs.Relations.{R, Fine, fine, fine_less, if_R, then_R}
-use Rattle.eval_laws.proofs.Rows.{Compares}
-use Rattle.sml_syntax.specs.Primitives.{Comparing}
+use Rattle.sml_syntax.specs.Layers.{PatLayer}
+use Rattle.sml_evaluation.specs.declared.value.Value.{Value}
+use Rattle.sml_evaluation.specs.declared.value.Bound.TheOpen.{Value-F, Bound-F}
+use Rattle.sml_evaluation.specs.ValueLayers.{ValueLayer, form_of_value}
+use Rattle.sml_evaluation.specs.Values.{text_size, same_con, Env, BoundLayer, opened}
+use Rattle.sml_evaluation.specs.RunState.{Done, Waits, then_do, counted}
+use Rattle.sml_evaluation.specs.Outcome.{State, Outcome}
+use Rattle.sml_evaluation.specs.Evaluation.{Level, meaning, fits_if, constructor_match, name_result, joined, and_more, each_match, cell_match, list_match, argument_match, held_match, con_match, applied_match, constant_match, tuple_match, pat_result, same_int, and_same, each_same, same_result}
+use Rattle.eval_laws.proofs.Relations.{Mode, Higher, along, Onward, on, stays, R, done, waits, done_here, waits_here, weaker, if_R}
+use Rattle.eval_laws.proofs.Rows.{S, Steady}
+use Rattle.eval_laws.proofs.Walks.{Walk, then_W, then_S}
 
-abbrev M : Type 0
-M = Outcome (Option Env)
+fits_steady : (b : Bool) → Steady (fits_if b)
+fits_steady true m s = done_here
+fits_steady false m s = done_here
 
-abbrev pub Matches : ℕ → Matcher → Matcher → Type 0
-Matches k part other = (env : Env) (s : EvalState) (p : Pat) (v : Value) → R k s.count (part env s p v) (other env s p v)
+constructor_steady : (c : Constructor) (v : ValueLayer) → Steady (constructor_match c v)
+constructor_steady (con.Data d i) (Value-F.Con e j) m s = fits_steady (same_con d i e j) m s
+constructor_steady (con.Data d i) (Value-F.Applied e j argument) m s = done_here
+constructor_steady (con.Exn number) (Value-F.Exn other argument) m s = fits_steady (number == other) m s
+constructor_steady _ _ m s = waits_here
 
-fits_fine : (b : Bool) (s : EvalState) → Fine s.count (fits_if b s)
-fits_fine true s = omega arith
-fits_fine false s = omega arith
+name_steady : (name : List ℕ) (b : Option BoundLayer) (v : Value) → Steady (name_result name b v)
+name_steady name (Some (Bound-F.Constructor c has_argument)) v m s = constructor_steady c (form_of_value v) m s
+name_steady name _ v m s = done_here
 
-fits_R : (k : ℕ) (b : Bool) (s : EvalState) → R k s.count (fits_if b s) (fits_if b s)
-fits_R k b s = fine k s.count (fits_if b s) (fits_fine b s)
+and_more_R : {m : Mode} (more : Option Env) (next other : State → Outcome (Option Env)) (s : State) → S m s (next s) (other (along m s)) → S m s (and_more more next s) (and_more more other (along m s))
+and_more_R None next other s h = done_here
+and_more_R (Some more) next other s h = then_S (λ others s1. Done (joined more others) s1) h (λ k others s1. done_here)
 
-stays_R : {A : Type 0} (k : ℕ) (s : EvalState) → R {A = A} k s.count (Waits s) (Waits s)
-stays_R k s = (omega arith, omega arith, refl)
+each_match_R : (w : Walk) (env : Env) (s : State) (ps : List Pat) (vs : List Value) → S w.m s (each_match w.l.pat env s ps vs) (each_match w.h.pat env (along w.m s) ps vs)
+each_match_R w env s [] [] = done_here
+each_match_R w env s (p ∷ ps) (v ∷ vs) =
+    then_W w (λ l more s1. and_more more (λ s2. each_match l.pat env s2 ps vs) s1) (w.both.pat env s p v)
+    (λ x more s1. and_more_R more (λ s2. each_match x.l.pat env s2 ps vs) (λ s2. each_match x.h.pat env s2 ps vs) s1 (each_match_R x env s1 ps vs))
+each_match_R w env s [] (v ∷ vs) = waits_here
+each_match_R w env s (p ∷ ps) [] = waits_here
 
-name_fine : (name : List ℕ) (b : Option (Bound-F Bound Value Closure)) (form : ValueLayer) (v : Value) (s : EvalState) → Fine s.count (name_result name b form v s)
-name_fine name (Some (Bound-F.Constructor has_argument)) (Value-F.Con other None) v s = fits_fine (bytes_eq name other) s
-name_fine name (Some (Bound-F.Constructor has_argument)) (Value-F.Con other (Some argument)) v s = omega arith
-name_fine name (Some (Bound-F.Constructor has_argument)) _ v s = omega arith
-name_fine name (Some (Bound-F.Exception number has_argument)) (Value-F.Exn other exn argument) v s = fits_fine (number == other) s
-name_fine name (Some (Bound-F.Exception number has_argument)) _ v s = omega arith
-name_fine name _ form v s = omega arith
+cell_match_R : (w : Walk) (env : Env) (s : State) (p : Pat) (next : Level → State → ValueLayer → Outcome (Option Env)) → ((x : Walk) (s1 : State) (tail : ValueLayer) → S x.m s1 (next x.l s1 tail) (next x.h (along x.m s1) tail)) → (v : ValueLayer)
+    → S w.m s (cell_match w.l.pat env s p (next w.l) v) (cell_match w.h.pat env (along w.m s) p (next w.h) v)
+cell_match_R w env s p next g (Value-F.Tuple (head ∷ tail ∷ [])) =
+    then_W w (λ l more s1. and_more more (λ s2. next l s2 (form_of_value tail)) s1) (w.both.pat env s p head)
+    (λ x more s1. and_more_R more (λ s2. next x.l s2 (form_of_value tail)) (λ s2. next x.h s2 (form_of_value tail)) s1 (g x s1 (form_of_value tail)))
+cell_match_R w env s p next g _ = waits_here
 
-and_more_R : (k : ℕ) (more : Option Env) (next other : EvalState → M) (s : EvalState) → R k s.count (next s) (other s) → R k s.count (and_more more next s) (and_more more other s)
-and_more_R k None next other s h = (omega arith, omega arith, refl)
-and_more_R k (Some more) next other s h =
-    then_R k s.count (next s) (other s) (λ others s1. Done (joined more others) s1) (λ others s1. Done (joined more others) s1) h (λ others s1. (omega arith, omega arith, refl))
+list_match_R : (w : Walk) (env : Env) (s : State) (ps : List Pat) (v : ValueLayer) → S w.m s (list_match w.l.pat env s ps v) (list_match w.h.pat env (along w.m s) ps v)
+list_match_R w env s [] (Value-F.Con d i) = fits_steady (same_con d i 1 0) w.m s
+list_match_R w env s [] (Value-F.Applied d i cell) = done_here
+list_match_R w env s (p ∷ ps) (Value-F.Con d i) = done_here
+list_match_R w env s (p ∷ ps) (Value-F.Applied d i cell) =
+    cell_match_R w env s p (λ l s1 tail. list_match l.pat env s1 ps tail) (λ x s1 tail. list_match_R x env s1 ps tail) (form_of_value cell)
+list_match_R w env s _ _ = waits_here
 
-each_match_R : (k : ℕ) (part other : Matcher) → Matches k part other → (env : Env) (s : EvalState) (ps : List Pat) (vs : List Value) → R k s.count (each_match part env s ps vs) (each_match other env s ps vs)
-each_match_R k part other h env s [] [] = (omega arith, omega arith, refl)
-each_match_R k part other h env s (p ∷ ps) (v ∷ vs) =
-    then_R k s.count (part env s p v) (other env s p v) (λ more s1. and_more more (λ s2. each_match part env s2 ps vs) s1) (λ more s1. and_more more (λ s2. each_match other env s2 ps vs) s1) (h env s p v)
-    (λ more s1. and_more_R k more (λ s2. each_match part env s2 ps vs) (λ s2. each_match other env s2 ps vs) s1 (each_match_R k part other h env s1 ps vs))
-each_match_R k part other h env s [] (v ∷ vs) = stays_R k s
-each_match_R k part other h env s (p ∷ ps) [] = stays_R k s
+argument_R : (w : Walk) (env : Env) (s : State) (p : Pat) (o : Option Value) → S w.m s (argument_match w.l.pat env s p o) (argument_match w.h.pat env (along w.m s) p o)
+argument_R w env s p None = done_here
+argument_R w env s p (Some v) = w.both.pat env s p v
 
-cell_match_R : (k : ℕ) (part other : Matcher) → Matches k part other → (env : Env) (s : EvalState) (p : Pat) (next next1 : EvalState → ValueLayer → M) → ((s1 : EvalState) (tail : ValueLayer) → R k s1.count (next s1 tail) (next1 s1 tail)) → (v : ValueLayer)
-    → R k s.count (cell_match part env s p next v) (cell_match other env s p next1 v)
-cell_match_R k part other h env s p next next1 g (Value-F.Tuple (head ∷ tail ∷ [])) =
-    then_R k s.count (part env s p head) (other env s p head) (λ more s1. and_more more (λ s2. next s2 (form_of_value tail)) s1) (λ more s1. and_more more (λ s2. next1 s2 (form_of_value tail)) s1) (h env s p head)
-    (λ more s1. and_more_R k more (λ s2. next s2 (form_of_value tail)) (λ s2. next1 s2 (form_of_value tail)) s1 (g s1 (form_of_value tail)))
-cell_match_R k part other h env s p next next1 g _ = stays_R k s
+held_R : (w : Walk) (env : Env) (s : State) (p : Pat) (o : Option Value) → S w.m s (held_match w.l.pat env s p o) (held_match w.h.pat env (along w.m s) p o)
+held_R w env s p None = waits_here
+held_R w env s p (Some v) = w.both.pat env s p v
 
-list_match_R : (k : ℕ) (part other : Matcher) → Matches k part other → (env : Env) (s : EvalState) (ps : List Pat) (v : ValueLayer) → R k s.count (list_match part env s ps v) (list_match other env s ps v)
-list_match_R k part other h env s [] (Value-F.Con name None) = (omega arith, omega arith, refl)
-list_match_R k part other h env s [] (Value-F.Con name (Some cell)) = (omega arith, omega arith, refl)
-list_match_R k part other h env s (p ∷ ps) (Value-F.Con name None) = (omega arith, omega arith, refl)
-list_match_R k part other h env s (p ∷ ps) (Value-F.Con name (Some cell)) =
-    cell_match_R k part other h env s p (λ s1 tail. list_match part env s1 ps tail) (λ s1 tail. list_match other env s1 ps tail) (λ s1 tail. list_match_R k part other h env s1 ps tail) (form_of_value cell)
-list_match_R k part other h env s _ _ = stays_R k s
+con_match_R : (w : Walk) (env : Env) (s : State) (c : Constructor) (p : Pat) (v : ValueLayer) → S w.m s (con_match w.l.pat env s c p v) (con_match w.h.pat env (along w.m s) c p v)
+con_match_R w env s (con.Data d i) p (Value-F.Con e j) = done_here
+con_match_R w env s (con.Data d i) p (Value-F.Applied e j argument) = if_R (same_con d i e j) (w.both.pat env s p argument) done_here
+con_match_R w env s (con.Exn number) p (Value-F.Exn other argument) = if_R (number == other) (argument_R w env s p argument) done_here
+con_match_R w env s con.Ref p (Value-F.Ref number) = held_R w env s p (slice_get s.store number)
+con_match_R w env s c p _ = waits_here
 
-argument_R : (k : ℕ) (part other : Matcher) → Matches k part other → (env : Env) (s : EvalState) (p : Pat) (o : Option Value) → R k s.count (argument_match part env s p o) (argument_match other env s p o)
-argument_R k part other h env s p None = (omega arith, omega arith, refl)
-argument_R k part other h env s p (Some v) = h env s p v
+applied_match_R : (w : Walk) (env : Env) (s : State) (p : Pat) (b : Option BoundLayer) (v : ValueLayer) → S w.m s (applied_match w.l.pat env s p b v) (applied_match w.h.pat env (along w.m s) p b v)
+applied_match_R w env s p (Some (Bound-F.Constructor c has_argument)) v = con_match_R w env s c p v
+applied_match_R w env s p _ v = waits_here
 
-held_R : (k : ℕ) (part other : Matcher) → Matches k part other → (env : Env) (s : EvalState) (p : Pat) (o : Option Value) → R k s.count (held_match part env s p o) (held_match other env s p o)
-held_R k part other h env s p None = stays_R k s
-held_R k part other h env s p (Some v) = h env s p v
+constant_steady : (p : PatLayer) (v : ValueLayer) → Steady (constant_match p v)
+constant_steady (PatForm-F.Int n) (Value-F.Int k) m s = fits_steady (same_int n k) m s
+constant_steady (PatForm-F.Char c) (Value-F.Char d) m s = fits_steady (c == d) m s
+constant_steady (PatForm-F.Str bytes) (Value-F.Str text) m s = weaker (on (omega arith) refl) (fits_steady (bytes_eq bytes text) m (counted (text_size bytes) s))
+constant_steady _ _ m s = waits_here
 
-applied_match_R : (k : ℕ) (part other : Matcher) → Matches k part other → (env : Env) (s : EvalState) (name : List ℕ) (p : Pat) (b : Option (Bound-F Bound Value Closure)) (v : ValueLayer)
-    → R k s.count (applied_match part env s name p b v) (applied_match other env s name p b v)
-applied_match_R k part other h env s name p (Some (Bound-F.Constructor has_argument)) (Value-F.Con con argument) =
-    if_R k s.count (bytes_eq name con) (argument_match part env s p argument) (fits_if false s) (argument_match other env s p argument) (fits_if false s)
-    (argument_R k part other h env s p argument) (fits_R k false s)
-applied_match_R k part other h env s name p (Some (Bound-F.Constructor has_argument)) (Value-F.Ref number) = held_R k part other h env s p (slice_get s.references number)
-applied_match_R k part other h env s name p (Some (Bound-F.Exception number has_argument)) (Value-F.Exn exn text argument) =
-    if_R k s.count (number == exn) (argument_match part env s p argument) (fits_if false s) (argument_match other env s p argument) (fits_if false s)
-    (argument_R k part other h env s p argument) (fits_R k false s)
-applied_match_R k part other h env s name p _ _ = stays_R k s
-
-constant_fine : (p : PatLayer) (v : ValueLayer) (s : EvalState) → Fine s.count (constant_match p v s)
-constant_fine (PatForm-F.Int n) (Value-F.Int m) s = fits_fine (same_int n m) s
-constant_fine (PatForm-F.Char c) (Value-F.Char d) s = fits_fine (c == d) s
-constant_fine (PatForm-F.Str bytes) (Value-F.Str text) s =
-    fine_less s.count (counted (text_size bytes) s).count (fits_if (bytes_eq bytes text) (counted (text_size bytes) s)) (omega arith) (fits_fine (bytes_eq bytes text) (counted (text_size bytes) s))
-constant_fine _ _ s = omega arith
-
-tuple_match_R : (k : ℕ) (part other : Matcher) → Matches k part other → (env : Env) (s : EvalState) (ps : List Pat) (v : ValueLayer) → R k s.count (tuple_match part env s ps v) (tuple_match other env s ps v)
-tuple_match_R k part other h env s ps (Value-F.Tuple vs) = each_match_R k part other h env s ps vs
-tuple_match_R k part other h env s ps _ = stays_R k s
+tuple_match_R : (w : Walk) (env : Env) (s : State) (ps : List Pat) (v : ValueLayer) → S w.m s (tuple_match w.l.pat env s ps v) (tuple_match w.h.pat env (along w.m s) ps v)
+tuple_match_R w env s ps (Value-F.Tuple vs) = each_match_R w env s ps vs
+tuple_match_R w env s ps _ = waits_here
 
 -- a pattern by its form
-pub pat_R : (k : ℕ) (part other : Matcher) → Matches k part other → (env : Env) (s : EvalState) (p : PatLayer) (v : Value) → R k s.count (pat_result part env s p v) (pat_result other env s p v)
-pat_R k part other h env s PatForm-F.Any v = fits_R k true s
-pat_R k part other h env s (PatForm-F.Int n) v = fine k s.count (constant_match (PatForm-F.Int n) (form_of_value v) s) (constant_fine (PatForm-F.Int n) (form_of_value v) s)
-pat_R k part other h env s (PatForm-F.Char c) v = fine k s.count (constant_match (PatForm-F.Char c) (form_of_value v) s) (constant_fine (PatForm-F.Char c) (form_of_value v) s)
-pat_R k part other h env s (PatForm-F.Str bytes) v = fine k s.count (constant_match (PatForm-F.Str bytes) (form_of_value v) s) (constant_fine (PatForm-F.Str bytes) (form_of_value v) s)
-pat_R k part other h env s PatForm-F.Unit v = fits_R k true s
-pat_R k part other h env s (PatForm-F.Name name) v =
-    fine k s.count (name_result name (opened (meaning name env)) (form_of_value v) v s) (name_fine name (opened (meaning name env)) (form_of_value v) v s)
-pat_R k part other h env s (PatForm-F.Tuple ps) v = tuple_match_R k part other h env s ps (form_of_value v)
-pat_R k part other h env s (PatForm-F.List ps) v = list_match_R k part other h env s ps (form_of_value v)
-pat_R k part other h env s (PatForm-F.Con name p) v = applied_match_R k part other h env s name p (opened (meaning name env)) (form_of_value v)
-pat_R k part other h env s (PatForm-F.Typed p t) v = h env s p v
+pub pat_R : (w : Walk) (env : Env) (s : State) (p : PatLayer) (v : Value) → S w.m s (pat_result w.l.pat env s p v) (pat_result w.h.pat env (along w.m s) p v)
+pat_R w env s PatForm-F.Any v = done_here
+pat_R w env s (PatForm-F.Int n) v = constant_steady (PatForm-F.Int n) (form_of_value v) w.m s
+pat_R w env s (PatForm-F.Char c) v = constant_steady (PatForm-F.Char c) (form_of_value v) w.m s
+pat_R w env s (PatForm-F.Str bytes) v = constant_steady (PatForm-F.Str bytes) (form_of_value v) w.m s
+pat_R w env s PatForm-F.Unit v = done_here
+pat_R w env s (PatForm-F.Name name) v = name_steady name (opened (meaning name env)) v w.m s
+pat_R w env s (PatForm-F.Tuple ps) v = tuple_match_R w env s ps (form_of_value v)
+pat_R w env s (PatForm-F.List ps) v = list_match_R w env s ps (form_of_value v)
+pat_R w env s (PatForm-F.Con name p) v = applied_match_R w env s p (opened (meaning name env)) (form_of_value v)
+pat_R w env s (PatForm-F.Typed p t) v = w.both.pat env s p v
 
 -- ---- equality
 
-and_same_R : (k : ℕ) (b : Bool) (next other : EvalState → Outcome Bool) (s : EvalState) → R k s.count (next s) (other s) → R k s.count (and_same b next s) (and_same b other s)
-and_same_R k true next other s h = h
-and_same_R k false next other s h = (omega arith, omega arith, refl)
+and_same_R : {m : Mode} (b : Bool) (next other : State → Outcome Bool) (s : State) → S m s (next s) (other (along m s)) → S m s (and_same b next s) (and_same b other (along m s))
+and_same_R true next other s h = h
+and_same_R false next other s h = done_here
 
-each_same_R : (k : ℕ) (part other : Comparing) → Compares k part other → (vs ws : List Value) (s : EvalState) → R k s.count (each_same part vs ws s) (each_same other vs ws s)
-each_same_R k part other h [] [] s = (omega arith, omega arith, refl)
-each_same_R k part other h (v ∷ vs) (w ∷ ws) s =
-    then_R k s.count (part v w s) (other v w s) (λ b s1. and_same b (each_same part vs ws) s1) (λ b s1. and_same b (each_same other vs ws) s1) (h v w s)
-    (λ b s1. and_same_R k b (each_same part vs ws) (each_same other vs ws) s1 (each_same_R k part other h vs ws s1))
-each_same_R k part other h [] (w ∷ ws) s = stays_R k s
-each_same_R k part other h (v ∷ vs) [] s = stays_R k s
+each_same_R : (w : Walk) (vs ws : List Value) (s : State) → S w.m s (each_same w.l.same vs ws s) (each_same w.h.same vs ws (along w.m s))
+each_same_R w [] [] s = done_here
+each_same_R w (a ∷ vs) (b ∷ ws) s =
+    then_W w (λ l c s1. and_same c (each_same l.same vs ws) s1) (w.both.same a b s)
+    (λ x c s1. and_same_R c (each_same x.l.same vs ws) (each_same x.h.same vs ws) s1 (each_same_R x vs ws s1))
+each_same_R w [] (b ∷ ws) s = waits_here
+each_same_R w (a ∷ vs) [] s = waits_here
 
-arguments_same_R : (k : ℕ) (part other : Comparing) → Compares k part other → (v w : Option Value) (s : EvalState) → R k s.count (arguments_same part v w s) (arguments_same other v w s)
-arguments_same_R k part other h None None s = (omega arith, omega arith, refl)
-arguments_same_R k part other h (Some v) (Some w) s = h v w s
-arguments_same_R k part other h None (Some w) s = (omega arith, omega arith, refl)
-arguments_same_R k part other h (Some v) None s = (omega arith, omega arith, refl)
-
-pub same_R : (k : ℕ) (part other : Comparing) → Compares k part other → (v w : ValueLayer) (s : EvalState) → R k s.count (same_result part v w s) (same_result other v w s)
-same_R k part other h (Value-F.Int a) (Value-F.Int b) s = (omega arith, omega arith, refl)
-same_R k part other h (Value-F.Char a) (Value-F.Char b) s = (omega arith, omega arith, refl)
-same_R k part other h (Value-F.Str a) (Value-F.Str b) s = (omega arith, omega arith, refl)
-same_R k part other h Value-F.Unit Value-F.Unit s = (omega arith, omega arith, refl)
-same_R k part other h (Value-F.Tuple vs) (Value-F.Tuple ws) s = each_same_R k part other h vs ws s
-same_R k part other h (Value-F.Con a v) (Value-F.Con b w) s =
-    if_R k s.count (bytes_eq a b) (arguments_same part v w s) (Done false s) (arguments_same other v w s) (Done false s) (arguments_same_R k part other h v w s) (omega arith, omega arith, refl)
-same_R k part other h (Value-F.Ref a) (Value-F.Ref b) s = (omega arith, omega arith, refl)
-same_R k part other h _ _ s = stays_R k s
+pub same_R : (w : Walk) (a b : ValueLayer) (s : State) → S w.m s (same_result w.l.same a b s) (same_result w.h.same a b (along w.m s))
+same_R w (Value-F.Int a) (Value-F.Int b) s = done_here
+same_R w (Value-F.Char a) (Value-F.Char b) s = done_here
+same_R w (Value-F.Str a) (Value-F.Str b) s = done_here
+same_R w Value-F.Unit Value-F.Unit s = done_here
+same_R w (Value-F.Tuple vs) (Value-F.Tuple ws) s = each_same_R w vs ws s
+same_R w (Value-F.Con d i) (Value-F.Con e j) s = done_here
+same_R w (Value-F.Con d i) (Value-F.Applied e j b) s = done_here
+same_R w (Value-F.Applied d i a) (Value-F.Con e j) s = done_here
+same_R w (Value-F.Applied d i a) (Value-F.Applied e j b) s = if_R (same_con d i e j) (w.both.same a b s) done_here
+same_R w (Value-F.Ref a) (Value-F.Ref b) s = done_here
+same_R w _ _ s = waits_here

@@ -8,17 +8,17 @@ use Rattle.sml_syntax.specs.declared.tree.PatForm.TheVariants as p
 use Rattle.sml_syntax.specs.declared.tree.Dec.{Dec}
 use Rattle.sml_syntax.specs.declared.tree.DecForm.TheVariants as d
 use Rattle.sml_syntax.specs.declared.tree.Rule.{Rule}
-use Rattle.sml_syntax.specs.declared.datum.Datum.TheVariants as datum
-use Rattle.sml_syntax.specs.declared.datum.Desc.TheVariants as desc
-use Rattle.sml_syntax.specs.declared.cache.CacheId.{CacheId}
-use Rattle.sml_syntax.specs.declared.cache.CacheOp.{CacheOp}
-use Rattle.sml_syntax.specs.declared.cache.CacheOp.TheVariants as op
-use Rattle.sml_syntax.specs.declared.cache.CacheAns.TheVariants as told
-use Rattle.sml_syntax.specs.declared.database.WebCall.{WebCall}
-use Rattle.sml_syntax.specs.declared.database.WebCall.TheVariants as call
-use Rattle.sml_syntax.specs.declared.database.WebAns.{WebAns}
-use Rattle.sml_syntax.specs.declared.database.WebAns.TheVariants as answer
-use Rattle.sml_syntax.specs.Nodes.{exp_at, pat_at, dec_at, rule_of, infix_exp, clause_pat, function_rules}
+use Rattle.web_data.specs.declared.datum.Datum.TheVariants as datum
+use Rattle.web_data.specs.declared.datum.Desc.TheVariants as desc
+use Rattle.web_data.specs.declared.cache.CacheId.{CacheId}
+use Rattle.web_data.specs.declared.cache.CacheOp.{CacheOp}
+use Rattle.web_data.specs.declared.cache.CacheOp.TheVariants as op
+use Rattle.web_data.specs.declared.cache.CacheAns.TheVariants as told
+use Rattle.web_data.specs.declared.database.WebCall.{WebCall}
+use Rattle.web_data.specs.declared.database.WebCall.TheVariants as call
+use Rattle.web_data.specs.declared.database.WebAns.{WebAns}
+use Rattle.web_data.specs.declared.database.WebAns.TheVariants as answer
+use Rattle.grammar_rules.specs.Nodes.{exp_at, pat_at, dec_at, rule_of, infix_exp, clause_pat, function_rules}
 
 module _ (at : Span) where
   abbrev name : List ℕ → Exp

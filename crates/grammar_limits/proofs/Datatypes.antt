@@ -7,8 +7,8 @@ use Rattle.sml_syntax.specs.declared.tree.TyForm.{TyForm, out-TyForm}
 use Rattle.sml_syntax.specs.declared.tree.TyForm.TheVariants as tf
 use Rattle.sml_syntax.specs.declared.tree.TyForm.TheOpen.{TyForm-F}
 use Rattle.sml_syntax.specs.NestedTypes.{Found, Datatypes, TyLayer, for_each, nested_in_form, nested_in_type, nested_in_bindings}
-use Rattle.sml_syntax.specs.Nodes.{ty_at, span_of, extent, first_of, last_of}
-use Rattle.sml_syntax.specs.Grammar as g
+use Rattle.grammar_rules.specs.Nodes.{ty_at, span_of, extent, first_of, last_of}
+use Rattle.grammar_rules.specs.Grammar as g
 use Rattle.sml_grammar.specs.declared.act.Act.TheVariants as a
 use Rattle.sml_grammar.specs.declared.act.TyAct.TheVariants as y
 use Rattle.sml_grammar.specs.declared.act.Made.{Made}

@@ -5,7 +5,7 @@ use Rattle.sml_syntax.specs.declared.token.Token.{Token}
 use Rattle.sml_syntax.specs.NestedTypes.{Found}
 use Rattle.sml_grammar.specs.declared.act.Made.{Made}
 use Rattle.parse_limits.specs.Lacks.{first_lack, lack_from, lack_of, begins_datatypes, ends_datatypes}
-use Rattle.sml_syntax.specs.Grammar.{items, decs_tree}
+use Rattle.grammar_rules.specs.Grammar.{items, decs_tree}
 use Rattle.grammar_trees.specs.Tells.{Tells}
 use Rattle.grammar_limits.specs.Finds.{lowest, Finds}
 use Rattle.grammar_limits.specs.Laws.{whole, LackAs, TellsLacks}

@@ -3,8 +3,8 @@ use Rattle.std.proofs.Common.{ℕ, suc, nat_lt, cond, List, [], ◌∷◌, ◌++
 use Rattle.sml_syntax.specs.declared.token.Token.{Token}
 use Rattle.sml_syntax.specs.declared.token.Lack.TheVariants as l
 use Rattle.sml_syntax.specs.NestedTypes.{Found, nested_in_bindings}
-use Rattle.sml_syntax.specs.Nodes.{first_of, last_of}
-use Rattle.sml_syntax.specs.Grammar.{Phrase, Tree, variable_lack, local_lack}
+use Rattle.grammar_rules.specs.Nodes.{first_of, last_of}
+use Rattle.grammar_rules.specs.Grammar.{Phrase, Tree, variable_lack, local_lack}
 use Rattle.sml_grammar.specs.declared.act.Made.{Made}
 use Rattle.parse_limits.specs.Lacks.{own_types, lack_of, variables_of, begins_datatypes, ends_datatypes, head_of, begins_vars, added_var}
 use Rattle.grammar_trees.specs.Tells as t

@@ -6,9 +6,9 @@ use Rattle.sml_syntax.specs.declared.tree.Pat.{Pat}
 use Rattle.sml_syntax.specs.declared.tree.PatForm.TheVariants as p
 use Rattle.sml_syntax.specs.declared.tree.Rule.{Rule}
 use Rattle.sml_syntax.specs.NestedTypes.{Found}
-use Rattle.sml_syntax.specs.Nodes.{function_rules, curried, clause_pat, pat_at}
-use Rattle.sml_syntax.specs.Programs.{Each, PatFits, ExpFits, RuleFits}
-use Rattle.sml_syntax.specs.Grammar as g
+use Rattle.grammar_rules.specs.Nodes.{function_rules, curried, clause_pat, pat_at}
+use Rattle.grammar_rules.specs.Programs.{Each, PatFits, ExpFits, RuleFits}
+use Rattle.grammar_rules.specs.Grammar as g
 use Rattle.sml_grammar.specs.declared.act.Made.{Made}
 use Rattle.sml_grammar.specs.declared.act.Act.TheVariants as a
 use Rattle.sml_grammar.specs.declared.act.PatAct.TheVariants as q

@@ -9,9 +9,9 @@ use Rattle.sml_syntax.specs.declared.tree.DecForm.{DecForm}
 use Rattle.sml_syntax.specs.declared.tree.DecForm.TheVariants as df
 use Rattle.sml_syntax.specs.declared.tree.Program.{Program}
 use Rattle.sml_syntax.specs.NestedTypes.{Found}
-use Rattle.sml_syntax.specs.Nodes.{span_of, extent, first_of, it_dec, dec_at, pat_at}
-use Rattle.sml_syntax.specs.Programs.{Each, DecFits, ExpFits, highest}
-use Rattle.sml_syntax.specs.Grammar as g
+use Rattle.grammar_rules.specs.Nodes.{span_of, extent, first_of, it_dec, dec_at, pat_at}
+use Rattle.grammar_rules.specs.Programs.{Each, DecFits, ExpFits, highest}
+use Rattle.grammar_rules.specs.Grammar as g
 use Rattle.sml_grammar.specs.declared.act.Made.{Made}
 use Rattle.sml_grammar.specs.declared.act.Act.TheVariants as a
 use Rattle.sml_grammar.specs.declared.act.DecAct.TheVariants as b

@@ -4,8 +4,8 @@ use Rattle.std.proofs.lemmas.Bool.{lt-ltb, le-ltb, ltb-false, ltb-true}
 use Rattle.sml_syntax.specs.declared.token.Token.{Token}
 use Rattle.sml_syntax.specs.declared.tree.Ty.{Ty}
 use Rattle.sml_syntax.specs.NestedTypes.{Found, form_of_ty, is_variable, are_variables}
-use Rattle.sml_syntax.specs.Nodes.{last_of}
-use Rattle.sml_syntax.specs.Grammar as g
+use Rattle.grammar_rules.specs.Nodes.{last_of}
+use Rattle.grammar_rules.specs.Grammar as g
 use Rattle.sml_grammar.specs.declared.act.Act.TheVariants as a
 use Rattle.sml_grammar.specs.declared.act.TyAct.TheVariants as y
 use Rattle.sml_grammar.specs.declared.act.Made.{Made}

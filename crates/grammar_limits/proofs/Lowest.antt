@@ -2,7 +2,7 @@
 use Rattle.std.proofs.Common.{◌≡◌, ℕ, ◌<◌, ◌≤◌, nat_lt, cond, List, [], ◌∷◌, ◌++◌, Bool, true, false, Option, Some, None, refl, ap, ap₂, sym, ◌∙◌, append_assoc, subst, arith, ltb-true, ltb-false}
 use Rattle.sml_syntax.specs.declared.token.Lack.{Lack}
 use Rattle.sml_syntax.specs.NestedTypes.{Found}
-use Rattle.sml_syntax.specs.Programs.{IsFirstLack}
+use Rattle.grammar_rules.specs.Programs.{IsFirstLack}
 use Rattle.sml_grammar.specs.declared.act.Made.{Made}
 use Rattle.sml_grammar.specs.declared.act.Act.{Act}
 use Rattle.sml_grammar.specs.declared.act.Act.TheVariants as a

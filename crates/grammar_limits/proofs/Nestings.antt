@@ -7,8 +7,8 @@ use Rattle.sml_syntax.specs.declared.tree.Ty.{Ty, out-roll-Ty}
 use Rattle.sml_syntax.specs.declared.tree.TyForm.{TyForm, out-TyForm}
 use Rattle.sml_syntax.specs.declared.tree.TyForm.TheOpen.{TyForm-F}
 use Rattle.sml_syntax.specs.NestedTypes.{Found, Datatypes, TyLayer, form_of_ty, own_variables, are_variables, nested_here, for_each, nested_in_form, nested_in_type}
-use Rattle.sml_syntax.specs.Nodes.{ty_at}
-use Rattle.sml_syntax.specs.Programs.{Each}
+use Rattle.grammar_rules.specs.Nodes.{ty_at}
+use Rattle.grammar_rules.specs.Programs.{Each}
 use Rattle.sml_grammar.specs.declared.act.Act.TheVariants as a
 use Rattle.sml_grammar.specs.declared.act.TyAct.TheVariants as y
 use Rattle.sml_grammar.specs.declared.act.Made.{Made}

@@ -18,10 +18,10 @@ use Rattle.sml_syntax.specs.declared.tree.DecForm.TheVariants as d
 use Rattle.sml_syntax.specs.declared.tree.DecForm.TheOpen.{DecForm-F, ExpForm-F}
 use Rattle.sml_syntax.specs.declared.tree.Rule.{Rule}
 use Rattle.sml_syntax.specs.declared.tree.Piece.{Piece}
-use Rattle.sml_syntax.specs.Nodes.{exp_at, pat_at, ty_at, dec_at}
+use Rattle.grammar_rules.specs.Nodes.{exp_at, pat_at, ty_at, dec_at}
 use Rattle.sml_syntax.specs.NestedTypes.{TyLayer, form_of_ty}
 use Rattle.sml_syntax.specs.Layers.{ExpLayer, DecLayer, PatLayer, form_of_exp, form_of_dec, form_of_pat}
-use Rattle.sml_syntax.specs.Programs.{TyFits, TyFormFits, PatFits, PatFormFits, ExpFits, ExpFormFits, DecFits, DecFormFits}
+use Rattle.grammar_rules.specs.Programs.{TyFits, TyFormFits, PatFits, PatFormFits, ExpFits, ExpFormFits, DecFits, DecFormFits}
 use Rattle.grammar_limits.specs.Grows.{Fit}
 use Rattle.grammar_limits.proofs.Fits.{node, none}
 

@@ -2,7 +2,7 @@
 use Rattle.std.proofs.Common.{◌≡◌, ℕ, List, [], ◌∷◌, ◌++◌, true, false, refl, ap, sym, ◌∙◌, append_assoc}
 use Rattle.sml_syntax.specs.declared.token.Token.{Token}
 use Rattle.sml_syntax.specs.NestedTypes.{Found, Datatypes}
-use Rattle.sml_syntax.specs.Grammar as g
+use Rattle.grammar_rules.specs.Grammar as g
 use Rattle.sml_grammar.specs.declared.act.Act.{Act}
 use Rattle.sml_grammar.specs.declared.act.Act.TheVariants as a
 use Rattle.sml_grammar.specs.declared.act.DecAct.TheVariants as b

@@ -10,8 +10,8 @@ use Rattle.sml_syntax.specs.declared.tree.Rule.{Rule, out-roll-Rule}
 use Rattle.sml_syntax.specs.declared.tree.Piece.{out-Piece, out-roll-Piece}
 use Rattle.sml_syntax.specs.declared.tree.Piece.TheVariants as piece
 use Rattle.sml_syntax.specs.declared.tree.DecForm.TheOpen.{Piece-F}
-use Rattle.sml_syntax.specs.Nodes.{exp_at, pat_at, rule_of, infix_exp, cons_pat, numbers, number_rule, nested, curried}
-use Rattle.sml_syntax.specs.Programs.{Each, PatFits, PatFormFits, ExpFits, ExpFormFits, DecFits, RuleFits, PieceFits, TyFits}
+use Rattle.grammar_rules.specs.Nodes.{exp_at, pat_at, rule_of, infix_exp, cons_pat, numbers, number_rule, nested, curried}
+use Rattle.grammar_rules.specs.Programs.{Each, PatFits, PatFormFits, ExpFits, ExpFormFits, DecFits, RuleFits, PieceFits, TyFits}
 use Rattle.grammar_limits.specs.Grows.{Fit}
 use Rattle.grammar_limits.proofs.Fits.{own, other, one, two, gathered, at-least, moved}
 use Rattle.grammar_limits.proofs.Nodes as nodes

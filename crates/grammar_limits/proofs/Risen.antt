@@ -2,11 +2,11 @@
 use Rattle.std.proofs.Common.{ℕ, List, [], ◌∷◌, ◌++◌, true, false, Some, None, codes, refl}
 use Rattle.sml_syntax.specs.declared.token.Token.{Token}
 use Rattle.sml_syntax.specs.NestedTypes.{Found}
-use Rattle.sml_syntax.specs.Nodes.{span_of, extent, last_of, first_of, exp_at, pat_at, function_rules, clause_pat}
+use Rattle.grammar_rules.specs.Nodes.{span_of, extent, last_of, first_of, exp_at, pat_at, function_rules, clause_pat}
 use Rattle.sml_syntax.specs.declared.tree.PatForm.TheVariants as pf
 use Rattle.sml_syntax.specs.declared.tree.ExpForm.TheVariants as ef
-use Rattle.sml_syntax.specs.Programs.{TyFits, PatFits, ExpFits, DecFits, RuleFits}
-use Rattle.sml_syntax.specs.Grammar as g
+use Rattle.grammar_rules.specs.Programs.{TyFits, PatFits, ExpFits, DecFits, RuleFits}
+use Rattle.grammar_rules.specs.Grammar as g
 use Rattle.sml_grammar.specs.declared.act.Made.{Made}
 use Rattle.parse_limits.specs.Heights.{growth_of, exp_growth, pat_growth, ty_growth, dec_growth, grown, too_high}
 use Rattle.grammar_trees.specs.Tells as t

@@ -7,8 +7,8 @@ use Rattle.sml_syntax.specs.declared.tree.TyForm.{TyForm, out-TyForm}
 use Rattle.sml_syntax.specs.declared.tree.TyForm.TheVariants as tf
 use Rattle.sml_syntax.specs.declared.tree.TyForm.TheOpen.{TyForm-F}
 use Rattle.sml_syntax.specs.NestedTypes.{Found, TyLayer, form_of_ty, is_variable}
-use Rattle.sml_syntax.specs.Nodes.{ty_at, span_of, extent, first_of, last_of}
-use Rattle.sml_syntax.specs.Grammar as g
+use Rattle.grammar_rules.specs.Nodes.{ty_at, span_of, extent, first_of, last_of}
+use Rattle.grammar_rules.specs.Grammar as g
 use Rattle.sml_grammar.specs.declared.act.Act.TheVariants as a
 use Rattle.sml_grammar.specs.declared.act.TyAct.{TyAct}
 use Rattle.sml_grammar.specs.declared.act.TyAct.TheVariants as y

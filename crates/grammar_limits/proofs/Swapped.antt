@@ -1,7 +1,7 @@
 -- The order of lacks of one kind doesn't matter to the lowest.
 use Rattle.std.proofs.Common.{◌≡◌, ℕ, ◌<◌, ◌≤◌, nat_lt, cond, List, [], ◌∷◌, ◌++◌, Bool, true, false, Option, Some, None, refl, ap, ap₂, sym, ◌∙◌, arith, lt-ltb, le-ltb, ltb-true, ltb-false}
 use Rattle.sml_syntax.specs.NestedTypes.{Found}
-use Rattle.sml_syntax.specs.Programs.{Each}
+use Rattle.grammar_rules.specs.Programs.{Each}
 use Rattle.parse_limits.specs.Lacks.{lower, lower_found}
 use Rattle.grammar_limits.specs.Finds.{lowest}
 

@@ -2,7 +2,7 @@
 use Rattle.std.specs.Prelude.{◌≡◌, ℕ, List, [], ◌∷◌, ◌++◌, length, Option, Some}
 use Rattle.sml_syntax.specs.declared.token.Token.{Token}
 use Rattle.sml_syntax.specs.NestedTypes.{Found, Datatypes, nested_in_bindings}
-use Rattle.sml_syntax.specs.Grammar.{Phrase, datas, cons, datas_tree}
+use Rattle.grammar_rules.specs.Grammar.{Phrase, datas, cons, datas_tree}
 use Rattle.sml_grammar.specs.declared.act.Act.TheVariants as a
 use Rattle.sml_grammar.specs.declared.act.DecAct.TheVariants as b
 use Rattle.sml_grammar.specs.declared.act.Made.{Made}

@@ -5,8 +5,8 @@ use Rattle.sml_syntax.specs.declared.tree.Pat.{Pat}
 use Rattle.sml_syntax.specs.declared.tree.Ty.{Ty}
 use Rattle.sml_syntax.specs.declared.tree.Rule.{Rule}
 use Rattle.sml_syntax.specs.declared.tree.Piece.{Piece, out-Piece}
-use Rattle.sml_syntax.specs.Programs.{Each, TyFits, PatFits, ExpFits, DecFits, RuleFits, PieceFits, ArgumentFits}
-use Rattle.sml_syntax.specs.Grammar as g
+use Rattle.grammar_rules.specs.Programs.{Each, TyFits, PatFits, ExpFits, DecFits, RuleFits, PieceFits, ArgumentFits}
+use Rattle.grammar_rules.specs.Grammar as g
 use Rattle.sml_grammar.specs.declared.act.Made.{Made}
 use Rattle.parse_limits.specs.Heights.{first_high}
 

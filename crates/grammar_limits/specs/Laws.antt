@@ -3,8 +3,8 @@ use Rattle.std.specs.Prelude.{◌≡◌, ℕ, List, [], ◌∷◌, Option, Some,
 use Rattle.sml_syntax.specs.declared.token.Token.{Token}
 use Rattle.sml_syntax.specs.declared.tree.Program.{Program}
 use Rattle.sml_syntax.specs.NestedTypes.{Found}
-use Rattle.sml_syntax.specs.Grammar.{items, decs_tree}
-use Rattle.sml_syntax.specs.Programs.{Each, DecFits, highest, IsFirstHigh, IsFirstLack}
+use Rattle.grammar_rules.specs.Grammar.{items, decs_tree}
+use Rattle.grammar_rules.specs.Programs.{Each, DecFits, highest, IsFirstHigh, IsFirstLack}
 use Rattle.sml_grammar.specs.declared.act.Act.TheVariants as a
 use Rattle.sml_grammar.specs.declared.act.DecAct.TheVariants as b
 use Rattle.sml_grammar.specs.declared.act.Made.{Made}

@@ -3,7 +3,7 @@ use Rattle.std.specs.Prelude.{◌≡◌, ℕ, ◌≤◌, List, [], ◌∷◌, �
 use Rattle.sml_syntax.specs.declared.token.Token.{Token}
 use Rattle.sml_syntax.specs.declared.tree.Ty.{Ty}
 use Rattle.sml_syntax.specs.NestedTypes.{Found, Datatypes, are_variables, for_each, nested_in_type, nested_in_constructors, nested_in_bindings}
-use Rattle.sml_syntax.specs.Grammar as g
+use Rattle.grammar_rules.specs.Grammar as g
 use Rattle.sml_grammar.specs.declared.act.Act.TheVariants as a
 use Rattle.sml_grammar.specs.declared.act.TyAct.TheVariants as y
 use Rattle.sml_grammar.specs.declared.act.Made.{Made}

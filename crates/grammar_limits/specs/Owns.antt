@@ -1,7 +1,7 @@
 -- The types of a declaration of datatypes, as its acts tell them.
 use Rattle.std.specs.Prelude.{◌≡◌, ℕ, List, [], ◌∷◌, ◌++◌}
 use Rattle.sml_syntax.specs.NestedTypes.{Datatypes}
-use Rattle.sml_syntax.specs.Grammar as g
+use Rattle.grammar_rules.specs.Grammar as g
 use Rattle.sml_grammar.specs.declared.act.Made.{Made}
 use Rattle.parse_limits.specs.Lacks.{Own, own_types}
 

@@ -4,8 +4,8 @@ use Rattle.std.specs.Str.{bytes_eq}
 use Rattle.std.proofs.lemmas.Slice.Eq.{bytes_eq-Decides}
 use Rattle.std.proofs.lemmas.Bool.{eqb-true, eqb-false}
 use Rattle.sml_syntax.specs.declared.token.Token.{Token}
-use Rattle.sml_syntax.specs.InfixNames.{infix_level}
-use Rattle.sml_syntax.specs.Grammar.{IsMark, IsInfixName, atpat, atpats}
+use Rattle.grammar_rules.specs.InfixNames.{infix_level}
+use Rattle.grammar_rules.specs.Grammar.{IsMark, IsInfixName, atpat, atpats}
 use Rattle.sml_grammar.specs.declared.mark.Mark.TheVariants as m
 use Rattle.sml_grammar.specs.declared.token_sort.TokenSort.{TokenSort}
 use Rattle.sml_grammar.specs.declared.symbol.Sym.TheVariants as s

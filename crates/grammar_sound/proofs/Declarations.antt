@@ -4,8 +4,8 @@ use Rattle.sml_syntax.specs.declared.token.Token.{Token}
 use Rattle.sml_syntax.specs.declared.token.Lack.TheVariants as l
 use Rattle.sml_syntax.specs.declared.tree.DecForm.TheVariants as d
 use Rattle.sml_syntax.specs.NestedTypes.{nested_in_bindings}
-use Rattle.sml_syntax.specs.Nodes.{dec_at, extent, span_of, it_dec, function_rules}
-use Rattle.sml_syntax.specs.Grammar.{Phrase, IsMark, IsName, local_lack, expr, pat, decs, recs, funs, exns, items, items_after, dec_val, dec_rec, dec_fun, dec_type, dec_datatype, dec_exception, dec_local, dec_replication, decs_none, decs_more, decs_parted, binds_one, binds_more, recs_one, recs_more, funs_one, funs_more, items_dec, items_exp, items_exp_more, items_after_dec, items_after_semicolon}
+use Rattle.grammar_rules.specs.Nodes.{dec_at, extent, span_of, it_dec, function_rules}
+use Rattle.grammar_rules.specs.Grammar.{Phrase, IsMark, IsName, local_lack, expr, pat, decs, recs, funs, exns, items, items_after, dec_val, dec_rec, dec_fun, dec_type, dec_datatype, dec_exception, dec_local, dec_replication, decs_none, decs_more, decs_parted, binds_one, binds_more, recs_one, recs_more, funs_one, funs_more, items_dec, items_exp, items_exp_more, items_after_dec, items_after_semicolon}
 use Rattle.sml_grammar.specs.declared.mark.Mark.{Mark}
 use Rattle.sml_grammar.specs.declared.mark.Mark.TheVariants as m
 use Rattle.sml_grammar.specs.declared.token_sort.TokenSort.{TokenSort}

@@ -2,7 +2,7 @@
 use Rattle.std.proofs.Common.{◌≡◌, ℕ, List, [], ◌∷◌, ◌++◌, Bool, true, false, Option, Some, None, refl, ap, ◌∙◌, subst, append_assoc, codes}
 use Rattle.sml_syntax.specs.declared.token.Token.{Token}
 use Rattle.sml_syntax.specs.declared.token.Lack.TheVariants as l
-use Rattle.sml_syntax.specs.Grammar.{Phrase, IsMark, IsName, IsTypeName, IsTyVar, ty, cons, exns, vars_none, vars_one, vars_several, more_vars_one, more_vars_more, abbrevs_one, abbrevs_more, datas_one, datas_more, cons_one, cons_of, cons_more, cons_of_more, exns_one, exns_of, exns_same, exns_more, exns_of_more, exns_same_more}
+use Rattle.grammar_rules.specs.Grammar.{Phrase, IsMark, IsName, IsTypeName, IsTyVar, ty, cons, exns, vars_none, vars_one, vars_several, more_vars_one, more_vars_more, abbrevs_one, abbrevs_more, datas_one, datas_more, cons_one, cons_of, cons_more, cons_of_more, exns_one, exns_of, exns_same, exns_more, exns_of_more, exns_same_more}
 use Rattle.sml_grammar.specs.declared.mark.Mark.TheVariants as m
 use Rattle.sml_grammar.specs.declared.token_sort.TokenSort.{TokenSort}
 use Rattle.sml_grammar.specs.declared.symbol.Sym.{Sym}

@@ -4,8 +4,8 @@ use Rattle.sml_syntax.specs.declared.token.Token.{Token}
 use Rattle.sml_syntax.specs.declared.token.TokenForm.TheVariants as f
 use Rattle.sml_syntax.specs.declared.tree.ExpForm.TheVariants as ef
 use Rattle.sml_syntax.specs.declared.tree.Piece.TheVariants as piece
-use Rattle.sml_syntax.specs.Nodes.{exp_at, span_of, name_place}
-use Rattle.sml_syntax.specs.Grammar.{Is, IsMark, text_tree, atx, text_part, antiquoted, expr, atx_unit, atx_paren, atx_tuple, atx_seq, atx_no_list, atx_list, quoted_last, quoted_more, no_text, some_text, anti_name, anti_exp, exps_more}
+use Rattle.grammar_rules.specs.Nodes.{exp_at, span_of, name_place}
+use Rattle.grammar_rules.specs.Grammar.{Is, IsMark, text_tree, atx, text_part, antiquoted, expr, atx_unit, atx_paren, atx_tuple, atx_seq, atx_no_list, atx_list, quoted_last, quoted_more, no_text, some_text, anti_name, anti_exp, exps_more}
 use Rattle.sml_grammar.specs.declared.mark.Mark.TheVariants as m
 use Rattle.sml_grammar.specs.declared.token_sort.TokenSort.{TokenSort}
 use Rattle.sml_grammar.specs.declared.symbol.Sym.{Sym}

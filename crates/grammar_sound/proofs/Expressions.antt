@@ -3,8 +3,8 @@ use Rattle.std.proofs.Common.{◌≡◌, ℕ, ◌≤◌, ◌+◌, List, [], ◌�
 use Rattle.sml_syntax.specs.declared.token.Token.{Token}
 use Rattle.sml_syntax.specs.declared.token.TokenForm.TheVariants as f
 use Rattle.sml_syntax.specs.declared.tree.ExpForm.TheVariants as ef
-use Rattle.sml_syntax.specs.Nodes.{exp_at, extent, span_of, rule_of}
-use Rattle.sml_syntax.specs.Grammar.{Is, Phrase, IsMark, IsTypeName, exp_tree, atx, app, inf, tail, expr, pat, decs, atx_int, atx_char, atx_str, atx_name, atx_quote, atx_let, exps_one, exps_more, app_one, inf_top, tyx_one, tail_raise, tail_if, tail_case, tail_fn, match_last, match_more, one_rule}
+use Rattle.grammar_rules.specs.Nodes.{exp_at, extent, span_of, rule_of}
+use Rattle.grammar_rules.specs.Grammar.{Is, Phrase, IsMark, IsTypeName, exp_tree, atx, app, inf, tail, expr, pat, decs, atx_int, atx_char, atx_str, atx_name, atx_quote, atx_let, exps_one, exps_more, app_one, inf_top, tyx_one, tail_raise, tail_if, tail_case, tail_fn, match_last, match_more, one_rule}
 use Rattle.sml_grammar.specs.declared.mark.Mark.{Mark}
 use Rattle.sml_grammar.specs.declared.mark.Mark.TheVariants as m
 use Rattle.sml_grammar.specs.declared.token_sort.TokenSort.{TokenSort}

@@ -5,9 +5,9 @@ use Rattle.sml_syntax.specs.declared.token.TokenForm.TheVariants as f
 use Rattle.sml_syntax.specs.declared.tree.ExpForm.TheVariants as ef
 use Rattle.sml_syntax.specs.declared.tree.TyForm.TheVariants as t
 use Rattle.sml_syntax.specs.declared.tree.Piece.TheVariants as piece
-use Rattle.sml_syntax.specs.InfixNames.{infix_level, symbol_level, word_level}
-use Rattle.sml_syntax.specs.Nodes.{exp_at, ty_at}
-use Rattle.sml_syntax.specs.Grammar.{IsMark, IsName, IsAnyName, IsTypeName, short, IsInfixName, atx, orc, andc, inf, expr, atpat, atpats, pat, conty, ty, cons, atx_name, atx_op, atx_unit, atx_no_list, app_one, inf_top, tyx_one, andc_one, orc_one, exp_orc, quoted_last, no_text, head_name, head_op, atpat_unit, atpat_no_list, apat_one, cpat_one, pat_one, conty_name, conty_paren, stars_one, tupty_one, ty_one, items_none, items_after_none, match_last, one_rule, clauses_last}
+use Rattle.grammar_rules.specs.InfixNames.{infix_level, symbol_level, word_level}
+use Rattle.grammar_rules.specs.Nodes.{exp_at, ty_at}
+use Rattle.grammar_rules.specs.Grammar.{IsMark, IsName, IsAnyName, IsTypeName, short, IsInfixName, atx, orc, andc, inf, expr, atpat, atpats, pat, conty, ty, cons, atx_name, atx_op, atx_unit, atx_no_list, app_one, inf_top, tyx_one, andc_one, orc_one, exp_orc, quoted_last, no_text, head_name, head_op, atpat_unit, atpat_no_list, apat_one, cpat_one, pat_one, conty_name, conty_paren, stars_one, tupty_one, ty_one, items_none, items_after_none, match_last, one_rule, clauses_last}
 use Rattle.sml_grammar.specs.declared.mark.Mark.TheVariants as m
 use Rattle.sml_grammar.specs.declared.token_sort.TokenSort.{TokenSort}
 use Rattle.sml_grammar.specs.declared.symbol.Sym.{Sym}

@@ -2,9 +2,9 @@
 use Rattle.std.proofs.Common.{◌≡◌, ◌+◌, ◌≤◌, ℕ, zero, suc, nat_le, nat_lt, List, [], ◌∷◌, ◌++◌, Bool, true, false, cond, Option, None, refl, ap, sym, ◌∙◌, subst, append_assoc, arith, codes}
 use Rattle.std.proofs.lemmas.Bool.{leb-true, le-leb}
 use Rattle.sml_syntax.specs.declared.token.Token.{Token}
-use Rattle.sml_syntax.specs.Nodes.{pat_at, span_of, last_of}
+use Rattle.grammar_rules.specs.Nodes.{pat_at, span_of, last_of}
 use Rattle.sml_syntax.specs.declared.tree.PatForm.TheVariants as p
-use Rattle.sml_syntax.specs.Grammar.{Is, IsMark, IsAnyName, IsTypeName, IsInfixName, atpat, atpats, clause, funs, head_name, head_op, atpat_name, atpats_none, atpats_more, clause_plain, clause_typed, clause_infix, clause_infix_typed, clauses_last, clauses_more, rule_tree}
+use Rattle.grammar_rules.specs.Grammar.{Is, IsMark, IsAnyName, IsTypeName, IsInfixName, atpat, atpats, clause, funs, head_name, head_op, atpat_name, atpats_none, atpats_more, clause_plain, clause_typed, clause_infix, clause_infix_typed, clauses_last, clauses_more, rule_tree}
 use Rattle.sml_grammar.specs.declared.mark.Mark.{Mark}
 use Rattle.sml_grammar.specs.declared.mark.Mark.TheVariants as m
 use Rattle.sml_grammar.specs.declared.token_sort.TokenSort.{TokenSort}

@@ -3,8 +3,8 @@ use Rattle.std.proofs.Common.{◌≡◌, ℕ, suc, List, [], ◌∷◌, ◌++◌
 use Rattle.sml_syntax.specs.declared.token.Token.{Token}
 use Rattle.sml_syntax.specs.declared.token.TokenForm.TheVariants as f
 use Rattle.sml_syntax.specs.declared.tree.PatForm.TheVariants as p
-use Rattle.sml_syntax.specs.Nodes.{pat_at, extent, span_of, last_of, cons_pat}
-use Rattle.sml_syntax.specs.Grammar.{Phrase, IsMark, IsAnyName, IsTypeName, atpat, apat, cpat, pat, ty, head_name, head_op, atpat_any, atpat_int, atpat_char, atpat_str, atpat_name, atpat_unit, atpat_paren, atpat_tuple, atpat_no_list, atpat_list, pats_one, pats_more, apat_one, apat_con, cpat_one, cpat_cons, pat_one, pat_typed}
+use Rattle.grammar_rules.specs.Nodes.{pat_at, extent, span_of, last_of, cons_pat}
+use Rattle.grammar_rules.specs.Grammar.{Phrase, IsMark, IsAnyName, IsTypeName, atpat, apat, cpat, pat, ty, head_name, head_op, atpat_any, atpat_int, atpat_char, atpat_str, atpat_name, atpat_unit, atpat_paren, atpat_tuple, atpat_no_list, atpat_list, pats_one, pats_more, apat_one, apat_con, cpat_one, cpat_cons, pat_one, pat_typed}
 use Rattle.sml_grammar.specs.declared.mark.Mark.{Mark}
 use Rattle.sml_grammar.specs.declared.mark.Mark.TheVariants as m
 use Rattle.sml_grammar.specs.declared.token_sort.TokenSort.{TokenSort}

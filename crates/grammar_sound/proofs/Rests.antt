@@ -5,8 +5,8 @@ use Rattle.std.proofs.lemmas.Bool.Decides.{leb_tells}
 use Rattle.sml_syntax.specs.declared.token.Token.{Token}
 use Rattle.sml_syntax.specs.declared.token.TokenForm.TheVariants as f
 use Rattle.sml_syntax.specs.declared.tree.ExpForm.TheVariants as ef
-use Rattle.sml_syntax.specs.Nodes.{exp_at, extent, infix_exp}
-use Rattle.sml_syntax.specs.Grammar.{IsMark, IsInfix, atx, app, tyx, inf, ty, atx_op, atx_op_equals, app_to, inf_up, inf_left, inf_right, tyx_typed, andc_one, andc_both, ande_tail, ande_more, orc_one, orc_either, ore_one, ore_tail, ore_more, exp_tail, exp_orc, exp_ore, exp_handle}
+use Rattle.grammar_rules.specs.Nodes.{exp_at, extent, infix_exp}
+use Rattle.grammar_rules.specs.Grammar.{IsMark, IsInfix, atx, app, tyx, inf, ty, atx_op, atx_op_equals, app_to, inf_up, inf_left, inf_right, tyx_typed, andc_one, andc_both, ande_tail, ande_more, orc_one, orc_either, ore_one, ore_tail, ore_more, exp_tail, exp_orc, exp_ore, exp_handle}
 use Rattle.sml_grammar.specs.declared.mark.Mark.{Mark}
 use Rattle.sml_grammar.specs.declared.mark.Mark.TheVariants as m
 use Rattle.sml_grammar.specs.declared.token_sort.TokenSort.{TokenSort}

@@ -6,8 +6,8 @@ use Rattle.std.proofs.lemmas.Bool.{eqb-true}
 use Rattle.sml_syntax.specs.declared.token.Token.{Token}
 use Rattle.sml_syntax.specs.declared.token.TokenForm.{TokenForm}
 use Rattle.sml_syntax.specs.declared.token.TokenForm.TheVariants as f
-use Rattle.sml_syntax.specs.InfixNames.{infix_level, symbol_level, word_level, or_else}
-use Rattle.sml_syntax.specs.Grammar.{IsMark, IsName, IsAnyName, IsInfixName, IsInfix, by_name, by_equals, IsTypeName, short, long, IsTyVar}
+use Rattle.grammar_rules.specs.InfixNames.{infix_level, symbol_level, word_level, or_else}
+use Rattle.grammar_rules.specs.Grammar.{IsMark, IsName, IsAnyName, IsInfixName, IsInfix, by_name, by_equals, IsTypeName, short, long, IsTyVar}
 use Rattle.sml_grammar.specs.declared.mark.Mark.{Mark}
 use Rattle.sml_grammar.specs.declared.mark.Mark.TheVariants as m
 use Rattle.sml_grammar.specs.declared.token_sort.TokenSort.{TokenSort}

@@ -10,9 +10,9 @@ use Rattle.sml_syntax.specs.declared.tree.Ty.{Ty}
 use Rattle.sml_syntax.specs.declared.tree.Dec.{Dec}
 use Rattle.sml_syntax.specs.declared.tree.Rule.{Rule}
 use Rattle.sml_syntax.specs.declared.tree.Piece.{Piece}
-use Rattle.sml_syntax.specs.InfixNames.{infix_level}
+use Rattle.grammar_rules.specs.InfixNames.{infix_level}
 use Rattle.sml_syntax.specs.NestedTypes.{Found}
-use Rattle.sml_syntax.specs.Grammar.{Is, IsMark, IsName, IsTypeName, IsTyVar, Phrase, atx, app, tyx, andc, orc, quoted, text_part, inf, ande, ore, tail, expr, exps, match_of, head, atpat, apat, cpat, pat, pats, atpats, conty, tupty, ty, stars, tys, ty_vars, more_vars, dec, decs, binds, recs, funs, abbrevs, datas, cons, exns, clause, clauses, items, items_after, exp_tree, exps_tree, rule_tree, rules_tree, text_tree, pieces_tree, name_tree, pat_tree, pats_tree, ty_tree, tys_tree, vars_tree, dec_tree, decs_tree, binds_tree, recs_tree, abbrevs_tree, cons_tree, datas_tree}
+use Rattle.grammar_rules.specs.Grammar.{Is, IsMark, IsName, IsTypeName, IsTyVar, Phrase, atx, app, tyx, andc, orc, quoted, text_part, inf, ande, ore, tail, expr, exps, match_of, head, atpat, apat, cpat, pat, pats, atpats, conty, tupty, ty, stars, tys, ty_vars, more_vars, dec, decs, binds, recs, funs, abbrevs, datas, cons, exns, clause, clauses, items, items_after, exp_tree, exps_tree, rule_tree, rules_tree, text_tree, pieces_tree, name_tree, pat_tree, pats_tree, ty_tree, tys_tree, vars_tree, dec_tree, decs_tree, binds_tree, recs_tree, abbrevs_tree, cons_tree, datas_tree}
 use Rattle.sml_grammar.specs.declared.mark.Mark.{Mark}
 use Rattle.sml_grammar.specs.declared.mark.Mark.TheVariants as m
 use Rattle.sml_grammar.specs.declared.token_sort.TokenSort.{TokenSort}

@@ -4,8 +4,8 @@ use Rattle.std.proofs.lemmas.Bool.{eqb-true, leb-true, le-leb, lt-ltb}
 use Rattle.sml_syntax.specs.declared.token.Token.{Token}
 use Rattle.sml_syntax.specs.declared.tree.Program.{Program}
 use Rattle.sml_syntax.specs.NestedTypes.{Found}
-use Rattle.sml_syntax.specs.Grammar.{Is, IsMark, items, decs_tree}
-use Rattle.sml_syntax.specs.Programs.{IsWide}
+use Rattle.grammar_rules.specs.Grammar.{Is, IsMark, items, decs_tree}
+use Rattle.grammar_rules.specs.Programs.{IsWide}
 use Rattle.sml_grammar.specs.declared.act.Act.{Act}
 use Rattle.sml_grammar.specs.declared.act.Act.TheVariants as a
 use Rattle.sml_grammar.specs.declared.act.PatAct.TheVariants as p

@@ -5,8 +5,8 @@ use Rattle.sml_syntax.specs.declared.token.TokenForm.TheVariants as f
 use Rattle.sml_syntax.specs.declared.tree.Ty.{Ty}
 use Rattle.sml_syntax.specs.declared.tree.TyForm.TheVariants as t
 use Rattle.sml_syntax.specs.NestedTypes.{Found}
-use Rattle.sml_syntax.specs.Nodes.{ty_at, extent, span_of}
-use Rattle.sml_syntax.specs.Grammar.{Is, Phrase, IsMark, IsAnyName, IsTypeName, IsTyVar, variable_lack, tys_tree, conty, tupty, ty, stars, tys, conty_name, conty_var, conty_paren, conty_one, conty_several, tys_one, tys_more, stars_one, stars_more, tupty_one, tupty_several, ty_one, ty_arrow}
+use Rattle.grammar_rules.specs.Nodes.{ty_at, extent, span_of}
+use Rattle.grammar_rules.specs.Grammar.{Is, Phrase, IsMark, IsAnyName, IsTypeName, IsTyVar, variable_lack, tys_tree, conty, tupty, ty, stars, tys, conty_name, conty_var, conty_paren, conty_one, conty_several, tys_one, tys_more, stars_one, stars_more, tupty_one, tupty_several, ty_one, ty_arrow}
 use Rattle.sml_grammar.specs.declared.mark.Mark.TheVariants as m
 use Rattle.sml_grammar.specs.declared.token_sort.TokenSort.{TokenSort}
 use Rattle.sml_grammar.specs.declared.token_sort.TokenSort.TheVariants as o

@@ -3,8 +3,8 @@ use Rattle.std.proofs.Common.{◌≡◌, ◌≤◌, ◌<◌, ℕ, List, [], ◌�
 use Rattle.sml_syntax.specs.declared.token.Token.{Token}
 use Rattle.sml_syntax.specs.declared.tree.Program.{Program}
 use Rattle.sml_syntax.specs.NestedTypes.{Found}
-use Rattle.sml_syntax.specs.Nodes.{last_of, last_after}
-use Rattle.sml_syntax.specs.Programs.{IsWide, BeginsProgram, IsUnexpected, place_behind}
+use Rattle.grammar_rules.specs.Nodes.{last_of, last_after}
+use Rattle.grammar_rules.specs.Programs.{IsWide, BeginsProgram, IsUnexpected, place_behind}
 use Rattle.sml_grammar.specs.declared.act.Made.{Made}
 use Rattle.sml_grammar.specs.declared.symbol.Sym.{Sym}
 use Rattle.sml_grammar.specs.Machine.{Fed, Goes, Empties, Stuck, Accepts, Stops, end_of, next_of, start, outcome_of, place_of}

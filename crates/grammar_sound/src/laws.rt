@@ -3,7 +3,7 @@ ghost use Rattle.std.specs.Prelude.{◌≡◌, ◌++◌, ℕ, List, []};
 ghost use Rattle.sml_syntax.specs.declared.token.Token.{Token as TokenValue};
 ghost use Rattle.sml_syntax.specs.declared.tree.Program.{Program as ProgramValue};
 ghost use Rattle.sml_syntax.specs.NestedTypes.{Found};
-ghost use Rattle.sml_syntax.specs.Programs.{IsWide, BeginsProgram, place_behind};
+ghost use Rattle.grammar_rules.specs.Programs.{IsWide, BeginsProgram, place_behind};
 ghost use Rattle.sml_grammar.specs.declared.act.Made.{Made as MadeValue};
 ghost use Rattle.sml_grammar.specs.Machine.{Accepts, Stops, outcome_of, place_of};
 ghost use Rattle.grammar_sound.specs.Soundness.{FitsSlice};

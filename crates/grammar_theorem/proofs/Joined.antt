@@ -3,7 +3,7 @@ use Rattle.std.proofs.Common.{◌≡◌, ◌<◌, ◌≤◌, ℕ, List, [], ◌�
 use Rattle.sml_syntax.specs.declared.token.Token.{Token}
 use Rattle.sml_syntax.specs.declared.tree.Program.{Program}
 use Rattle.sml_syntax.specs.NestedTypes.{Found}
-use Rattle.sml_syntax.specs.Programs.{IsWide, IsUnexpected}
+use Rattle.grammar_rules.specs.Programs.{IsWide, IsUnexpected}
 use Rattle.sml_grammar.specs.declared.act.Made.{Made}
 use Rattle.sml_grammar.specs.declared.symbol.Sym.{Sym}
 use Rattle.sml_grammar.specs.declared.symbol.Sym.TheVariants as s

@@ -12,9 +12,9 @@ use Rattle.sml_syntax.specs.declared.tree.PatForm.TheVariants as pf
 use Rattle.sml_syntax.specs.declared.tree.Rule.{Rule}
 use Rattle.sml_syntax.specs.declared.tree.Piece.TheVariants as piece
 use Rattle.sml_syntax.specs.NestedTypes.{Found, nested_in_bindings}
-use Rattle.sml_syntax.specs.Nodes.{span_of, extent, first_of, last_of, pat_at, rule_of, clause_pat, function_rules, curried, it_dec}
-use Rattle.sml_syntax.specs.Grammar as g
-use Rattle.sml_syntax.specs.Grammar.{local_lack}
+use Rattle.grammar_rules.specs.Nodes.{span_of, extent, first_of, last_of, pat_at, rule_of, clause_pat, function_rules, curried, it_dec}
+use Rattle.grammar_rules.specs.Grammar as g
+use Rattle.grammar_rules.specs.Grammar.{local_lack}
 use Rattle.sml_grammar.specs.declared.act.Made.{Made}
 use Rattle.sml_grammar.specs.declared.act.Act.{Act}
 use Rattle.sml_grammar.specs.declared.act.Act.TheVariants as a

@@ -4,8 +4,8 @@ use Rattle.sml_syntax.specs.declared.token.Token.{Token}
 use Rattle.sml_syntax.specs.declared.tree.Program.{Program}
 use Rattle.sml_syntax.specs.declared.tree.Dec.{Dec}
 use Rattle.sml_syntax.specs.NestedTypes.{Found}
-use Rattle.sml_syntax.specs.Grammar.{items, decs_tree}
-use Rattle.sml_syntax.specs.Programs.{IsWide, IsProgram}
+use Rattle.grammar_rules.specs.Grammar.{items, decs_tree}
+use Rattle.grammar_rules.specs.Programs.{IsWide, IsProgram}
 use Rattle.sml_grammar.specs.declared.act.Act.TheVariants as a
 use Rattle.sml_grammar.specs.declared.act.DecAct.TheVariants as d
 use Rattle.sml_grammar.specs.declared.act.Made.{Made}

@@ -2,8 +2,8 @@
 use Rattle.std.proofs.Common.{◌≡◌, ℕ, List, [], ◌∷◌, ◌++◌, Bool, true, false, refl, ap, sym, ◌∙◌, codes}
 use Rattle.sml_syntax.specs.declared.token.Token.{Token}
 use Rattle.sml_syntax.specs.declared.token.Lack.TheVariants as l
-use Rattle.sml_syntax.specs.Nodes.{last_of, last_after}
-use Rattle.sml_syntax.specs.Grammar.{IsMark, IsName, IsTypeName}
+use Rattle.grammar_rules.specs.Nodes.{last_of, last_after}
+use Rattle.grammar_rules.specs.Grammar.{IsMark, IsName, IsTypeName}
 use Rattle.sml_grammar.specs.declared.mark.Mark.{Mark}
 use Rattle.sml_grammar.specs.declared.mark.Mark.TheVariants as m
 use Rattle.sml_grammar.specs.declared.token_sort.TokenSort.{TokenSort}

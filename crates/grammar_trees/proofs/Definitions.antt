@@ -2,8 +2,8 @@
 use Rattle.std.proofs.Common.{◌≡◌, ℕ, List, [], ◌∷◌, ◌++◌, Bool, true, false, Some, refl, ap, sym, append_assoc, codes}
 use Rattle.sml_syntax.specs.declared.token.Token.{Token}
 use Rattle.sml_syntax.specs.declared.token.Lack.TheVariants as l
-use Rattle.sml_syntax.specs.Nodes.{last_of, last_after}
-use Rattle.sml_syntax.specs.Grammar.{IsMark, IsName, IsTypeName, IsTyVar}
+use Rattle.grammar_rules.specs.Nodes.{last_of, last_after}
+use Rattle.grammar_rules.specs.Grammar.{IsMark, IsName, IsTypeName, IsTyVar}
 use Rattle.sml_grammar.specs.declared.mark.Mark.TheVariants as m
 use Rattle.sml_grammar.specs.declared.token_sort.TokenSort.{TokenSort}
 use Rattle.sml_grammar.specs.declared.token_sort.TokenSort.TheVariants as o

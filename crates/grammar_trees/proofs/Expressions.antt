@@ -3,9 +3,9 @@ use Rattle.std.proofs.Common.{◌≡◌, ℕ, suc, ◌≤◌, ◌<◌, List, [],
 use Rattle.std.proofs.lemmas.Bool.{le-leb}
 use Rattle.sml_syntax.specs.declared.token.Token.{Token}
 use Rattle.sml_syntax.specs.declared.token.TokenForm.TheVariants as f
-use Rattle.sml_syntax.specs.InfixNames.{groups_right}
-use Rattle.sml_syntax.specs.Nodes.{first_of, last_of, last_after}
-use Rattle.sml_syntax.specs.Grammar.{IsMark, IsAnyName, IsTypeName, IsInfix}
+use Rattle.grammar_rules.specs.InfixNames.{groups_right}
+use Rattle.grammar_rules.specs.Nodes.{first_of, last_of, last_after}
+use Rattle.grammar_rules.specs.Grammar.{IsMark, IsAnyName, IsTypeName, IsInfix}
 use Rattle.sml_grammar.specs.declared.mark.Mark.{Mark}
 use Rattle.sml_grammar.specs.declared.mark.Mark.TheVariants as m
 use Rattle.sml_grammar.specs.declared.token_sort.TokenSort.{TokenSort}

@@ -6,11 +6,11 @@ use Rattle.std.specs.Str.{bytes_eq}
 use Rattle.std.proofs.lemmas.Slice.Eq.{bytes_eq-Decides}
 use Rattle.sml_syntax.specs.declared.token.Token.{Token}
 use Rattle.sml_syntax.specs.declared.token.Lack.TheVariants as l
-use Rattle.sml_syntax.specs.InfixNames.{infix_level}
+use Rattle.grammar_rules.specs.InfixNames.{infix_level}
 use Rattle.sml_syntax.specs.NestedTypes.{Found}
-use Rattle.sml_syntax.specs.Nodes.{first_of, last_of, last_after}
-use Rattle.sml_syntax.specs.Grammar as g
-use Rattle.sml_syntax.specs.Grammar.{IsMark, IsAnyName, IsTypeName, IsInfixName}
+use Rattle.grammar_rules.specs.Nodes.{first_of, last_of, last_after}
+use Rattle.grammar_rules.specs.Grammar as g
+use Rattle.grammar_rules.specs.Grammar.{IsMark, IsAnyName, IsTypeName, IsInfixName}
 use Rattle.sml_grammar.specs.declared.mark.Mark.{Mark}
 use Rattle.sml_grammar.specs.declared.mark.Mark.TheVariants as m
 use Rattle.sml_grammar.specs.declared.token_sort.TokenSort.{TokenSort}

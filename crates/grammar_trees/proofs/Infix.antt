@@ -3,8 +3,8 @@ use Rattle.std.proofs.Common.{◌≡◌, ℕ, suc, ◌<◌, List, Bool, true, fa
 use Rattle.std.proofs.lemmas.Bool.{lt-ltb, eqb-true}
 use Rattle.std.specs.Str.{bytes_eq}
 use Rattle.sml_syntax.specs.declared.token.Token.{Token}
-use Rattle.sml_syntax.specs.InfixNames.{infix_level, symbol_level, word_level, or_else, groups_right}
-use Rattle.sml_syntax.specs.Grammar.{IsInfix, by_name, by_equals}
+use Rattle.grammar_rules.specs.InfixNames.{infix_level, symbol_level, word_level, or_else, groups_right}
+use Rattle.grammar_rules.specs.Grammar.{IsInfix, by_name, by_equals}
 use Rattle.sml_grammar.specs.declared.token_sort.TokenSort.{TokenSort}
 use Rattle.sml_grammar.specs.Marks.{same_mark, mark_number}
 use Rattle.sml_grammar.specs.Sorts.{is_infix, level_of, begins_atom, atom_mark, equal_mark}

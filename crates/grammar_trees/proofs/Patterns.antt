@@ -2,8 +2,8 @@
 use Rattle.std.proofs.Common.{◌≡◌, ℕ, List, [], ◌∷◌, ◌++◌, true, false, refl, ap, sym, ◌∙◌, Some, codes, ℤ}
 use Rattle.sml_syntax.specs.declared.token.Token.{Token}
 use Rattle.sml_syntax.specs.declared.token.TokenForm.TheVariants as f
-use Rattle.sml_syntax.specs.Nodes.{first_of, last_of, last_after}
-use Rattle.sml_syntax.specs.Grammar.{IsMark, IsAnyName, IsTypeName}
+use Rattle.grammar_rules.specs.Nodes.{first_of, last_of, last_after}
+use Rattle.grammar_rules.specs.Grammar.{IsMark, IsAnyName, IsTypeName}
 use Rattle.sml_grammar.specs.declared.mark.Mark.{Mark}
 use Rattle.sml_grammar.specs.declared.mark.Mark.TheVariants as m
 use Rattle.sml_grammar.specs.declared.token_sort.TokenSort.{TokenSort}

@@ -2,7 +2,7 @@
 use Rattle.std.proofs.Common.{◌≡◌, ℕ, List, ◌∷◌, sym, ◌∙◌}
 use Rattle.sml_syntax.specs.declared.token.Token.{Token}
 use Rattle.sml_syntax.specs.NestedTypes.{Found}
-use Rattle.sml_syntax.specs.Grammar as g
+use Rattle.grammar_rules.specs.Grammar as g
 use Rattle.sml_grammar.specs.Sorts.{is_name, begins_dec, begins_ty, begins_pat, begins_atom, begins_tail, begins_exp}
 use Rattle.sml_grammar.specs.declared.act.Made.{Made}
 use Rattle.grammar_trees.specs.Tells as t
@@ -21,7 +21,7 @@ use Rattle.grammar_trees.proofs.Definitions as df
 use Rattle.grammar_trees.proofs.Declarations as de
 use Rattle.grammar_trees.proofs.Items as it
 use Rattle.grammar_trees.proofs.Steps.{after-both}
-use Rattle.sml_syntax.specs.Nodes.{last_of, last_after}
+use Rattle.grammar_rules.specs.Nodes.{last_of, last_after}
 
 abbrev pub Claim : g.Phrase → ℕ → List Token → g.Tree → List Made → Type 0
 Claim (g.conty v) next ts tree new = Starting begins_ty (ContyC v new) ts

@@ -6,7 +6,7 @@ use Rattle.sml_grammar.specs.declared.act.Made.{Made}
 use Rattle.sml_grammar.specs.declared.symbol.Sym.{Sym}
 use Rattle.sml_grammar.specs.declared.symbol.Sym.TheVariants as s
 use Rattle.sml_grammar.specs.declared.token_sort.TokenSort.{TokenSort}
-use Rattle.sml_syntax.specs.Nodes.{last_after}
+use Rattle.grammar_rules.specs.Nodes.{last_after}
 use Rattle.sml_grammar.specs.Sorts.{sort_of}
 use Rattle.sml_grammar.specs.Moves.{Move, Takes, Skips}
 use Rattle.sml_grammar.specs.Machine.{move_end, made, feed_by, end_of, next_of}

@@ -8,8 +8,8 @@ use Rattle.sml_syntax.specs.declared.tree.PatForm.TheVariants as p
 use Rattle.sml_syntax.specs.declared.tree.Ty.{Ty}
 use Rattle.sml_syntax.specs.declared.token.Lack.TheVariants as l
 use Rattle.sml_syntax.specs.NestedTypes.{Found}
-use Rattle.sml_syntax.specs.Nodes.{span_of, extent, last_of, exp_at, pat_at, rule_of}
-use Rattle.sml_syntax.specs.Grammar as g
+use Rattle.grammar_rules.specs.Nodes.{span_of, extent, last_of, exp_at, pat_at, rule_of}
+use Rattle.grammar_rules.specs.Grammar as g
 use Rattle.sml_grammar.specs.declared.mark.Mark.{Mark}
 use Rattle.sml_grammar.specs.declared.mark.Mark.TheVariants as m
 use Rattle.sml_grammar.specs.declared.act.Made.{Made}

@@ -1,8 +1,8 @@
 -- Types, as the machine reads them.
 use Rattle.std.proofs.Common.{◌≡◌, ℕ, List, [], ◌∷◌, ◌++◌, Bool, true, false, refl, ap, sym, ◌∙◌, subst, Some, codes, cond}
 use Rattle.sml_syntax.specs.declared.token.Token.{Token}
-use Rattle.sml_syntax.specs.Nodes.{first_of, last_of, last_after}
-use Rattle.sml_syntax.specs.Grammar.{IsMark, IsAnyName, IsTypeName, IsTyVar}
+use Rattle.grammar_rules.specs.Nodes.{first_of, last_of, last_after}
+use Rattle.grammar_rules.specs.Grammar.{IsMark, IsAnyName, IsTypeName, IsTyVar}
 use Rattle.sml_grammar.specs.declared.mark.Mark.{Mark}
 use Rattle.sml_grammar.specs.declared.mark.Mark.TheVariants as m
 use Rattle.sml_grammar.specs.declared.token_sort.TokenSort.{TokenSort}

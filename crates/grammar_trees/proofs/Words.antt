@@ -3,8 +3,8 @@ use Rattle.std.proofs.Common.{◌≡◌, ℕ, List, Bool, true, false, Option, S
 use Rattle.std.specs.Str.{bytes_eq}
 use Rattle.std.proofs.lemmas.Slice.Eq.{bytes_eq-Decides}
 use Rattle.sml_syntax.specs.declared.token.Token.{Token}
-use Rattle.sml_syntax.specs.InfixNames.{infix_level, symbol_level}
-use Rattle.sml_syntax.specs.Grammar.{IsMark, IsName, IsAnyName, IsLongName, IsInfixName, IsInfix, by_name, by_equals, IsTypeName, short, long, IsTyVar}
+use Rattle.grammar_rules.specs.InfixNames.{infix_level, symbol_level}
+use Rattle.grammar_rules.specs.Grammar.{IsMark, IsName, IsAnyName, IsLongName, IsInfixName, IsInfix, by_name, by_equals, IsTypeName, short, long, IsTyVar}
 use Rattle.sml_grammar.specs.declared.mark.Mark.{Mark}
 use Rattle.sml_grammar.specs.declared.mark.Mark.TheVariants as m
 use Rattle.sml_grammar.specs.declared.token_sort.TokenSort.{TokenSort}

@@ -9,8 +9,8 @@ use Rattle.sml_syntax.specs.declared.tree.Rule.{Rule}
 use Rattle.sml_syntax.specs.declared.tree.Piece.{Piece}
 use Rattle.sml_syntax.specs.declared.tree.Piece.TheVariants as piece
 use Rattle.sml_syntax.specs.declared.tree.Dec.{Dec}
-use Rattle.sml_syntax.specs.Nodes.{span_of, last_of, pat_at}
-use Rattle.sml_syntax.specs.Grammar as g
+use Rattle.grammar_rules.specs.Nodes.{span_of, last_of, pat_at}
+use Rattle.grammar_rules.specs.Grammar as g
 use Rattle.sml_grammar.specs.declared.act.Made.{Made}
 use Rattle.parse_values.specs.declared.value.Val.{Val}
 use Rattle.parse_values.specs.declared.value.Val.TheVariants as v

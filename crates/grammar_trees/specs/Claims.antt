@@ -1,7 +1,7 @@
 -- What the machine does at the tokens of each phrase, before any rest that ends it.
 use Rattle.std.specs.Prelude.{◌≡◌, ℕ, ◌≤◌, Option, Some, List, [], ◌∷◌, ◌++◌, Bool, true}
 use Rattle.sml_syntax.specs.declared.token.Token.{Token}
-use Rattle.sml_syntax.specs.Nodes.{last_after}
+use Rattle.grammar_rules.specs.Nodes.{last_after}
 use Rattle.sml_grammar.specs.declared.act.Made.{Made}
 use Rattle.sml_grammar.specs.declared.act.Act.TheVariants as a
 use Rattle.sml_grammar.specs.declared.act.TyAct.TheVariants as y
@@ -17,7 +17,7 @@ use Rattle.sml_grammar.specs.declared.symbol.Quoted.TheVariants as q
 use Rattle.sml_grammar.specs.declared.symbol.DecPhrase.TheVariants as dp
 use Rattle.sml_grammar.specs.declared.act.ExpAct.TheVariants as e
 use Rattle.sml_syntax.specs.declared.token.TokenForm.TheVariants as f
-use Rattle.sml_syntax.specs.Grammar.{IsMark}
+use Rattle.grammar_rules.specs.Grammar.{IsMark}
 use Rattle.sml_grammar.specs.declared.mark.Mark.TheVariants as m
 use Rattle.sml_grammar.specs.declared.token_sort.TokenSort.TheVariants as o
 use Rattle.sml_grammar.specs.Moves.{Takes}

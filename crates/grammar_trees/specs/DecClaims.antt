@@ -1,8 +1,8 @@
 -- What the machine does at the tokens of declarations, and of their parts.
 use Rattle.std.specs.Prelude.{◌≡◌, ℕ, List, [], ◌∷◌, ◌++◌, Bool, false, Option, codes}
 use Rattle.sml_syntax.specs.declared.token.Token.{Token}
-use Rattle.sml_syntax.specs.Nodes.{last_after}
-use Rattle.sml_syntax.specs.Grammar.{IsMark, IsName}
+use Rattle.grammar_rules.specs.Nodes.{last_after}
+use Rattle.grammar_rules.specs.Grammar.{IsMark, IsName}
 use Rattle.sml_grammar.specs.declared.mark.Mark.TheVariants as m
 use Rattle.sml_grammar.specs.declared.act.Made.{Made}
 use Rattle.sml_grammar.specs.declared.act.Act.TheVariants as a

@@ -1,7 +1,7 @@
 -- Before what a phrase ends: each of the symbols that may go on derives nothing there.
 use Rattle.std.specs.Prelude.{◌≡◌, ℕ, ◌<◌, List, [], ◌∷◌, Bool, true, Option, Some, None}
 use Rattle.sml_syntax.specs.declared.token.Token.{Token}
-use Rattle.sml_syntax.specs.InfixNames.{groups_right}
+use Rattle.grammar_rules.specs.InfixNames.{groups_right}
 use Rattle.sml_grammar.specs.declared.symbol.Sym.{Sym}
 use Rattle.sml_grammar.specs.declared.symbol.Sym.TheVariants as s
 use Rattle.sml_grammar.specs.declared.symbol.ExpRest.TheVariants as xr

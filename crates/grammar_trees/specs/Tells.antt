@@ -14,10 +14,10 @@ use Rattle.sml_syntax.specs.declared.tree.DecForm.TheVariants as d
 use Rattle.sml_syntax.specs.declared.tree.Rule.{Rule}
 use Rattle.sml_syntax.specs.declared.tree.Piece.{Piece}
 use Rattle.sml_syntax.specs.declared.tree.Piece.TheVariants as piece
-use Rattle.sml_syntax.specs.InfixNames.{groups_right}
+use Rattle.grammar_rules.specs.InfixNames.{groups_right}
 use Rattle.sml_syntax.specs.NestedTypes.{Found, nested_in_bindings}
-use Rattle.sml_syntax.specs.Nodes.{span_of, extent, first_of, last_of, name_place, exp_at, pat_at, ty_at, dec_at, rule_of, infix_exp, cons_pat, it_dec, function_rules, clause_pat}
-use Rattle.sml_syntax.specs.Grammar.{Phrase, atx, app, tyx, andc, orc, quoted, text_part, antiquoted, inf, ande, ore, tail, expr, exps, match_of, rule_of_match, head, atpat, apat, cpat, pat, pats, atpats, conty, tupty, ty, stars, tys, ty_vars, more_vars, dec, decs, binds, recs, funs, abbrevs, datas, cons, exns, clause, clauses, items, items_after, Tree, exp_tree, exps_tree, rule_tree, rules_tree, text_tree, pieces_tree, name_tree, pat_tree, pats_tree, ty_tree, tys_tree, vars_tree, dec_tree, decs_tree, binds_tree, recs_tree, abbrevs_tree, cons_tree, datas_tree, variable_lack, local_lack, Is, IsMark, IsName, IsAnyName, IsInfixName, IsInfix, IsTypeName, IsTyVar}
+use Rattle.grammar_rules.specs.Nodes.{span_of, extent, first_of, last_of, name_place, exp_at, pat_at, ty_at, dec_at, rule_of, infix_exp, cons_pat, it_dec, function_rules, clause_pat}
+use Rattle.grammar_rules.specs.Grammar.{Phrase, atx, app, tyx, andc, orc, quoted, text_part, antiquoted, inf, ande, ore, tail, expr, exps, match_of, rule_of_match, head, atpat, apat, cpat, pat, pats, atpats, conty, tupty, ty, stars, tys, ty_vars, more_vars, dec, decs, binds, recs, funs, abbrevs, datas, cons, exns, clause, clauses, items, items_after, Tree, exp_tree, exps_tree, rule_tree, rules_tree, text_tree, pieces_tree, name_tree, pat_tree, pats_tree, ty_tree, tys_tree, vars_tree, dec_tree, decs_tree, binds_tree, recs_tree, abbrevs_tree, cons_tree, datas_tree, variable_lack, local_lack, Is, IsMark, IsName, IsAnyName, IsInfixName, IsInfix, IsTypeName, IsTyVar}
 use Rattle.sml_grammar.specs.declared.mark.Mark.TheVariants as m
 use Rattle.sml_grammar.specs.declared.act.Act.TheVariants as a
 use Rattle.sml_grammar.specs.declared.act.ExpAct.TheVariants as x

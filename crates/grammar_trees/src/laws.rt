@@ -3,7 +3,7 @@ ghost use Rattle.std.specs.Prelude.{◌≡◌, List};
 ghost use Rattle.sml_syntax.specs.declared.token.Token.{Token};
 ghost use Rattle.sml_syntax.specs.declared.tree.Program.{Program};
 ghost use Rattle.sml_syntax.specs.NestedTypes.{Found};
-ghost use Rattle.sml_syntax.specs.Programs.{IsWide, IsProgram};
+ghost use Rattle.grammar_rules.specs.Programs.{IsWide, IsProgram};
 ghost use Rattle.grammar_trees.specs.Accepted.{IsAccepted};
 
 /// The machine accepts the tokens of each tree of the wider grammar, and tells the acts of its derivation. Where the

@@ -1,9 +1,9 @@
 -- Keepers that are filled by commands.
 use Rattle.std.proofs.Common.{◌≡◌, ◌≤◌, ◌+◌, ℕ, zero, suc, min, arith, List, [], ◌∷◌, ◌++◌, take, drop, length, map, zip, Option, Some, None, slice_get, refl, ap, sym, ◌∙◌, add-one}
 use Rattle.std.specs.Option.{option_map}
-use Rattle.sml_syntax.specs.declared.database.DbCmd.{DbCmd}
-use Rattle.sml_syntax.specs.declared.database.DbCmd.TheVariants as cmd
-use Rattle.sml_syntax.specs.declared.database.DbAns.{DbAns}
+use Rattle.web_data.specs.declared.database.DbCmd.{DbCmd}
+use Rattle.web_data.specs.declared.database.DbCmd.TheVariants as cmd
+use Rattle.web_data.specs.declared.database.DbAns.{DbAns}
 use Rattle.db_keeper.specs.DatabaseMachine.{Tables as TablesValue, effect_of}
 use Rattle.db_keeper.specs.Keeping.{KeeperMeaning, AnswersBy}
 use Rattle.history_check.specs.declared.tables.Tables.{Tables}

@@ -1,12 +1,12 @@
 -- An entry is tried on the machines: it steps there, or there is no step.
 use Rattle.std.proofs.Common.{◌≡◌, ◌<◌, ◌≤◌, ℕ, zero, suc, List, [], ◌∷◌, length, Bool, true, false, MatchBool, Option, Some, None, Result, Ok, Err, IfOk, slice_get, slice_set, refl, ap, sym, ◌∙◌, subst, arith}
-use Rattle.sml_syntax.specs.declared.cache.CacheCall.{CacheCall}
-use Rattle.sml_syntax.specs.declared.cache.CacheAns.{CacheAns}
-use Rattle.sml_syntax.specs.declared.database.DbCmd.{DbCmd}
-use Rattle.sml_syntax.specs.declared.database.DbAns.{DbAns}
-use Rattle.sml_syntax.specs.declared.database.DbAns.TheVariants as db
-use Rattle.sml_syntax.specs.DatabaseAnswers.{FitsCommand}
-use Rattle.sml_syntax.specs.CacheCalls.{cache_call_fits}
+use Rattle.web_data.specs.declared.cache.CacheCall.{CacheCall}
+use Rattle.web_data.specs.declared.cache.CacheAns.{CacheAns}
+use Rattle.web_data.specs.declared.database.DbCmd.{DbCmd}
+use Rattle.web_data.specs.declared.database.DbAns.{DbAns}
+use Rattle.web_data.specs.declared.database.DbAns.TheVariants as db
+use Rattle.web_data.specs.DatabaseAnswers.{FitsCommand}
+use Rattle.web_data.specs.CacheCalls.{cache_call_fits}
 use Rattle.outside_world.specs.Told.{Rose}
 use Rattle.outside_world.specs.FaultPlan.{FailsAsPlanned, plan_after}
 use Rattle.db_keeper.specs.DatabaseMachine.{Tables}
@@ -20,8 +20,8 @@ use Rattle.history_core.specs.ByObject.{NamesDiffer}
 use Rattle.history_core.proofs.PerKey.{one-there}
 use Rattle.history_core.specs.declared.entry.Entry.{Entry}
 use Rattle.history_check.specs.Replaying.{Tried}
-use Rattle.sml_syntax.specs.declared.database.WebCall.TheVariants as call
-use Rattle.sml_syntax.specs.declared.database.WebAns.TheVariants as answer
+use Rattle.web_data.specs.declared.database.WebCall.TheVariants as call
+use Rattle.web_data.specs.declared.database.WebAns.TheVariants as answer
 
 by-test : {P Q : Type 0} (b : Bool) → (b ≡ true → P) → (b ≡ false → Q) → MatchBool b P Q
 by-test true f g = f refl

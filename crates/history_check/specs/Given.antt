@@ -1,8 +1,8 @@
 -- The databases that are handed in: a name each, and the tables that each of its keepers tells.
 use Rattle.std.specs.Prelude.{ℕ, List, [], ◌∷◌, map, zip, Option, Some, None, slice_get, ◌≡◌, ⊤}
 use Rattle.std.specs.Option.{option_map}
-use Rattle.sml_syntax.specs.declared.database.DbCmd.{DbCmd}
-use Rattle.sml_syntax.specs.declared.database.DbCmd.TheVariants as cmd
+use Rattle.web_data.specs.declared.database.DbCmd.{DbCmd}
+use Rattle.web_data.specs.declared.database.DbCmd.TheVariants as cmd
 use Rattle.db_keeper.specs.DatabaseMachine.{Tables as TablesValue, effect_of}
 use Rattle.db_keeper.specs.Keeping.{KeeperMeaning}
 use Rattle.history_core.specs.LegalHistory.{Database}

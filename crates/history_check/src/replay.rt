@@ -1,7 +1,7 @@
 // The machines after a history, by trying its entries.
 ghost use Rattle.std.specs.Prelude.{◌≡◌, true, MatchBool, List, IfOk};
-ghost use Rattle.sml_syntax.specs.declared.database.DbCmd.{DbCmd as DbCmdValue};
-ghost use Rattle.sml_syntax.specs.declared.database.DbAns.TheVariants as db;
+ghost use Rattle.web_data.specs.declared.database.DbCmd.{DbCmd as DbCmdValue};
+ghost use Rattle.web_data.specs.declared.database.DbAns.TheVariants as db;
 ghost use Rattle.db_keeper.specs.Keeping.{KeeperMeaning};
 ghost use Rattle.db_pool.specs.Handling.{IsFault};
 ghost use Rattle.web_cache.specs.CacheMachine.{Group};
@@ -15,10 +15,11 @@ ghost use Rattle.history_check.specs.Replaying.{Tried, IsSingle};
 use crate::same::{same_cache_answer, same_database_answer};
 use crate::tables::{Tables, Told};
 use history_core::Entry;
-use sml_syntax::{CacheAns, CacheCall, DbAns, DbCmd, Listed, NoMemory, Text, WebAns, WebCall};
+use sml_syntax::{Listed, NoMemory, Text};
 use std::alloc::Global;
 use std::marker::Model;
 use web_cache::{Caches, call_fits, group_of};
+use web_data::{CacheAns, CacheCall, DbAns, DbCmd, WebAns, WebCall};
 
 /// A database of a history.
 #[derive(Drop)]

@@ -1,11 +1,12 @@
 // Whether two answers are equal.
 ghost use Rattle.std.specs.Prelude.{◌≡◌, ◌↔◌, true, IsTrue, IfOk};
-ghost use Rattle.sml_syntax.specs.Data.{has_desc};
-ghost use Rattle.sml_syntax.specs.CacheCalls.{cache_answer_fits};
+ghost use Rattle.web_data.specs.Data.{has_desc};
+ghost use Rattle.web_data.specs.CacheCalls.{cache_answer_fits};
 
-use sml_syntax::{CacheAns, CacheCall, CacheOp, Datum, DbAns, Desc, Listed, NoMemory, Text};
+use sml_syntax::{Listed, NoMemory, Text};
 use std::alloc::Global;
 use value_pickle::{fits, write};
+use web_data::{CacheAns, CacheCall, CacheOp, Datum, DbAns, Desc};
 
 /// Whether the answers are equal, of which the first one fits the call.
 pub(crate) fn same_cache_answer(

@@ -1,16 +1,17 @@
 // Tables that are handed in, and keepers made of them.
 ghost use Rattle.std.specs.Prelude.{◌≡◌, true, None, Option, IfOk, OnOk};
-ghost use Rattle.sml_syntax.specs.declared.database.DbAns.{DbAns as DbAnsValue};
-ghost use Rattle.sml_syntax.specs.DatabaseAnswers.{FitsCommand};
+ghost use Rattle.web_data.specs.declared.database.DbAns.{DbAns as DbAnsValue};
+ghost use Rattle.web_data.specs.DatabaseAnswers.{FitsCommand};
 ghost use Rattle.outside_world.specs.Told.{Rose};
 ghost use Rattle.db_keeper.specs.DatabaseMachine.{Tables as TablesValue};
 ghost use Rattle.db_keeper.specs.Keeping.{AnswersBy};
 ghost use Rattle.history_check.specs.Given.{after_command, filled, keeper_given};
 
 use db_keeper::{Keeper, MapKeeper};
-use sml_syntax::{DbAns, DbCmd, Listed, NoMemory, Text};
+use sml_syntax::{Listed, NoMemory, Text};
 use std::alloc::Global;
 use std::marker::Model;
+use web_data::{DbAns, DbCmd};
 
 /// The tables of a keeper: names, and rows of a key and a value. Of two tables with one name the first one counts, and
 /// it gets the rows of both; of two rows with one key the first one counts.

@@ -1,10 +1,10 @@
 -- The steps of a book are steps of the machines of its history.
 use Rattle.std.proofs.Common.{◌≡◌, ◌≤◌, ℕ, zero, suc, List, [], ◌∷◌, Some, slice_get, slice_set, refl, ap, sym, ◌∙◌, subst, arith}
-use Rattle.sml_syntax.specs.declared.database.DbCmd.{DbCmd}
-use Rattle.sml_syntax.specs.declared.database.DbAns.{DbAns}
-use Rattle.sml_syntax.specs.declared.database.DbAns.TheVariants as db
-use Rattle.sml_syntax.specs.declared.database.WebCall.TheVariants as call
-use Rattle.sml_syntax.specs.declared.database.WebAns.TheVariants as answer
+use Rattle.web_data.specs.declared.database.DbCmd.{DbCmd}
+use Rattle.web_data.specs.declared.database.DbAns.{DbAns}
+use Rattle.web_data.specs.declared.database.DbAns.TheVariants as db
+use Rattle.web_data.specs.declared.database.WebCall.TheVariants as call
+use Rattle.web_data.specs.declared.database.WebAns.TheVariants as answer
 use Rattle.outside_world.specs.FaultPlan.{FailsAsPlanned, plan_after}
 use Rattle.db_keeper.specs.Keeping.{KeeperMeaning, AnswersBy}
 use Rattle.db_pool.specs.Handling.{IsFault, KeeperAnswers, KeeperActs, HandleActs, HandleKept, replaced}

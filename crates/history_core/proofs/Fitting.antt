@@ -1,15 +1,15 @@
 -- The answers of the cache machine fit their calls.
 use Rattle.std.proofs.Common.{◌≡◌, inl, inr, ℕ, zero, suc, List, [], ◌∷◌, ◌++◌, Bool, true, false, cond, ◌&&◌, Option, Some, None, nat_le, slice_get, slice_set, refl, ap, sym, ◌∙◌, subst}
 use Rattle.std.specs.List.{AllByRecursion}
-use Rattle.sml_syntax.specs.declared.datum.Datum.{Datum}
-use Rattle.sml_syntax.specs.declared.cache.CacheId.{CacheId}
-use Rattle.sml_syntax.specs.declared.cache.CacheOp.{CacheOp}
-use Rattle.sml_syntax.specs.declared.cache.CacheOp.TheVariants as op
-use Rattle.sml_syntax.specs.declared.cache.CacheCall.{CacheCall}
-use Rattle.sml_syntax.specs.declared.cache.CacheAns.{CacheAns}
-use Rattle.sml_syntax.specs.declared.cache.CacheAns.TheVariants as ans
-use Rattle.sml_syntax.specs.Data.{has_desc}
-use Rattle.sml_syntax.specs.CacheCalls.{op_fits, op_answer_fits, cache_call_fits, cache_answer_fits}
+use Rattle.web_data.specs.declared.datum.Datum.{Datum}
+use Rattle.web_data.specs.declared.cache.CacheId.{CacheId}
+use Rattle.web_data.specs.declared.cache.CacheOp.{CacheOp}
+use Rattle.web_data.specs.declared.cache.CacheOp.TheVariants as op
+use Rattle.web_data.specs.declared.cache.CacheCall.{CacheCall}
+use Rattle.web_data.specs.declared.cache.CacheAns.{CacheAns}
+use Rattle.web_data.specs.declared.cache.CacheAns.TheVariants as ans
+use Rattle.web_data.specs.Data.{has_desc}
+use Rattle.web_data.specs.CacheCalls.{op_fits, op_answer_fits, cache_call_fits, cache_answer_fits}
 use Rattle.cache_rows.specs.RowMachine.{LeavesOut, current, kept, new_row, settled, sizes_from, stays, used}
 use Rattle.cache_rows.proofs.Lists.{all-append, all-filter, all-left, all-right}
 use Rattle.web_cache.specs.CacheMachine.{DataRow, Standing, Group, RowsStep, AbsentStep, OpStep, CacheStep, group_number, new_groups, new_group, row_size}

@@ -1,12 +1,12 @@
 -- What a call of a lone book makes of its handles and caches.
 use Rattle.std.proofs.Common.{◌≡◌, ◌<◌, ℕ, zero, suc, max, List, [], ◌∷◌, length, true, Option, Some, Result, Ok, Err, OnErr, slice_get, slice_set, refl, ap, sym, ◌∙◌, subst, arith}
-use Rattle.sml_syntax.specs.declared.cache.CacheCall.{CacheCall}
-use Rattle.sml_syntax.specs.declared.cache.CacheAns.{CacheAns}
-use Rattle.sml_syntax.specs.declared.database.DbCmd.{DbCmd}
-use Rattle.sml_syntax.specs.declared.database.DbAns.{DbAns}
-use Rattle.sml_syntax.specs.declared.database.WebCall.TheVariants as call
-use Rattle.sml_syntax.specs.declared.database.WebAns.TheVariants as answer
-use Rattle.sml_syntax.specs.CacheCalls.{cache_call_fits}
+use Rattle.web_data.specs.declared.cache.CacheCall.{CacheCall}
+use Rattle.web_data.specs.declared.cache.CacheAns.{CacheAns}
+use Rattle.web_data.specs.declared.database.DbCmd.{DbCmd}
+use Rattle.web_data.specs.declared.database.DbAns.{DbAns}
+use Rattle.web_data.specs.declared.database.WebCall.TheVariants as call
+use Rattle.web_data.specs.declared.database.WebAns.TheVariants as answer
+use Rattle.web_data.specs.CacheCalls.{cache_call_fits}
 use Rattle.db_keeper.specs.Keeping.{KeeperMeaning}
 use Rattle.db_pool.specs.Handling.{HandleKept}
 use Rattle.outside_world.specs.FaultPlan.{one_more}

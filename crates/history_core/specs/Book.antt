@@ -1,11 +1,11 @@
 -- A book over caches and the handles of databases: what each call makes of it.
 use Rattle.std.specs.Prelude.{◌≡◌, ◌≤◌, ℕ, List, [], ◌∷◌, map, max, Option, Some, None, ⊤}
-use Rattle.sml_syntax.specs.declared.cache.CacheCall.{CacheCall}
-use Rattle.sml_syntax.specs.declared.cache.CacheAns.{CacheAns}
-use Rattle.sml_syntax.specs.declared.database.DbCmd.{DbCmd}
-use Rattle.sml_syntax.specs.declared.database.DbAns.{DbAns}
-use Rattle.sml_syntax.specs.declared.database.WebCall.TheVariants as call
-use Rattle.sml_syntax.specs.declared.database.WebAns.TheVariants as answer
+use Rattle.web_data.specs.declared.cache.CacheCall.{CacheCall}
+use Rattle.web_data.specs.declared.cache.CacheAns.{CacheAns}
+use Rattle.web_data.specs.declared.database.DbCmd.{DbCmd}
+use Rattle.web_data.specs.declared.database.DbAns.{DbAns}
+use Rattle.web_data.specs.declared.database.WebCall.TheVariants as call
+use Rattle.web_data.specs.declared.database.WebAns.TheVariants as answer
 use Rattle.outside_world.specs.FaultPlan.{one_more}
 use Rattle.db_keeper.specs.Keeping.{KeeperMeaning}
 use Rattle.db_pool.specs.Handling.{HandleActs, HandleKept}

@@ -1,15 +1,15 @@
 -- The entries on one object, and histories that are legal object by object. An object is a group of caches or a database.
 use Rattle.std.specs.Prelude.{◌≡◌, ◌≤◌, ◌<◌, ◌==◌, ℕ, List, [], ◌∷◌, Bool, true, false, filter, slice_get, Some, ⊤, bytes_eq}
 use Rattle.std.specs.List.{AllByRecursion}
-use Rattle.sml_syntax.specs.declared.cache.CacheCall.{CacheCall}
-use Rattle.sml_syntax.specs.declared.cache.CacheAns.{CacheAns}
-use Rattle.sml_syntax.specs.declared.database.DbCmd.{DbCmd}
-use Rattle.sml_syntax.specs.declared.database.DbAns.{DbAns}
-use Rattle.sml_syntax.specs.declared.database.WebCall.{WebCall}
-use Rattle.sml_syntax.specs.declared.database.WebCall.TheVariants as call
-use Rattle.sml_syntax.specs.declared.database.WebAns.{WebAns}
-use Rattle.sml_syntax.specs.declared.database.WebAns.TheVariants as answer
-use Rattle.sml_syntax.specs.CacheCalls.{cache_call_fits}
+use Rattle.web_data.specs.declared.cache.CacheCall.{CacheCall}
+use Rattle.web_data.specs.declared.cache.CacheAns.{CacheAns}
+use Rattle.web_data.specs.declared.database.DbCmd.{DbCmd}
+use Rattle.web_data.specs.declared.database.DbAns.{DbAns}
+use Rattle.web_data.specs.declared.database.WebCall.{WebCall}
+use Rattle.web_data.specs.declared.database.WebCall.TheVariants as call
+use Rattle.web_data.specs.declared.database.WebAns.{WebAns}
+use Rattle.web_data.specs.declared.database.WebAns.TheVariants as answer
+use Rattle.web_data.specs.CacheCalls.{cache_call_fits}
 use Rattle.web_cache.specs.CacheMachine.{Group, GroupStep, group_number, new_group}
 use Rattle.history_core.specs.declared.entry.Entry.{Entry}
 use Rattle.history_core.specs.LegalHistory.{Database, KeepersEntry}

@@ -3,11 +3,11 @@
 --     CallsMeaning         what is seen of an object that makes calls
 --     Chain                steps one after another
 use Rattle.std.specs.Prelude.{◌≡◌, ◌≤◌, ◌⊎◌, ℕ, List, [], ◌∷◌, Option, Some, None}
-use Rattle.sml_syntax.specs.declared.database.DbCmd.{DbCmd}
-use Rattle.sml_syntax.specs.declared.database.DbAns.{DbAns}
-use Rattle.sml_syntax.specs.declared.database.WebCall.{WebCall}
-use Rattle.sml_syntax.specs.declared.database.WebAns.{WebAns}
-use Rattle.sml_syntax.specs.DatabaseAnswers.{FitsCommand}
+use Rattle.web_data.specs.declared.database.DbCmd.{DbCmd}
+use Rattle.web_data.specs.declared.database.DbAns.{DbAns}
+use Rattle.web_data.specs.declared.database.WebCall.{WebCall}
+use Rattle.web_data.specs.declared.database.WebAns.{WebAns}
+use Rattle.web_data.specs.DatabaseAnswers.{FitsCommand}
 use Rattle.outside_world.specs.FaultPlan.{one_more}
 use Rattle.db_pool.specs.Handling.{IsFault}
 use Rattle.history_core.specs.declared.entry.Entry.{Entry}

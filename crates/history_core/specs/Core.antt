@@ -5,10 +5,10 @@
 --     IsWhole          what holds after every list of events
 use Rattle.std.specs.Prelude.{◌≡◌, ℕ, zero, suc, ◌+◌, ◌-◌, ◌^◌, ◌<◌, ◌≤◌, ◌==◌, Bool, true, false, not, ◌&&◌, List, [], ◌∷◌, ◌++◌, map, filter, Option, Some, None, slice_get, slice_set, if◌then◌else◌}
 use Rattle.std.specs.List.{AllByRecursion, list_any}
-use Rattle.sml_syntax.specs.declared.database.WebCall.{WebCall}
-use Rattle.sml_syntax.specs.declared.database.WebCall.TheVariants as call
-use Rattle.sml_syntax.specs.declared.database.WebAns.{WebAns}
-use Rattle.sml_syntax.specs.declared.database.WebAns.TheVariants as answer
+use Rattle.web_data.specs.declared.database.WebCall.{WebCall}
+use Rattle.web_data.specs.declared.database.WebCall.TheVariants as call
+use Rattle.web_data.specs.declared.database.WebAns.{WebAns}
+use Rattle.web_data.specs.declared.database.WebAns.TheVariants as answer
 use Rattle.history_core.specs.declared.entry.Entry.{Entry}
 use Rattle.history_core.specs.LegalHistory.{Database, LegalHistory}
 use Rattle.history_core.specs.declared.event.Event.{Event}

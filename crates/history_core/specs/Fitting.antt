@@ -1,8 +1,8 @@
 -- Caches whose values have the description of their cache.
 use Rattle.std.specs.Prelude.{◌≡◌, List, true}
 use Rattle.std.specs.List.{AllByRecursion}
-use Rattle.sml_syntax.specs.declared.cache.CacheId.{CacheId}
-use Rattle.sml_syntax.specs.Data.{has_desc}
+use Rattle.web_data.specs.declared.cache.CacheId.{CacheId}
+use Rattle.web_data.specs.Data.{has_desc}
 use Rattle.web_cache.specs.CacheMachine.{DataRow, Standing, Group}
 
 abbrev pub IsFitting : CacheId → DataRow → Type 0

@@ -4,16 +4,16 @@
 --     LegalRun         what a list of entries makes of them, one after the other
 --     LegalHistory     a list of entries from the machines of the start
 use Rattle.std.specs.Prelude.{◌≡◌, ◌≤◌, ℕ, List, [], ◌∷◌, true, slice_get, slice_set, Some}
-use Rattle.sml_syntax.specs.declared.cache.CacheCall.{CacheCall}
-use Rattle.sml_syntax.specs.declared.cache.CacheAns.{CacheAns}
-use Rattle.sml_syntax.specs.declared.database.DbCmd.{DbCmd}
-use Rattle.sml_syntax.specs.declared.database.DbAns.{DbAns}
-use Rattle.sml_syntax.specs.declared.database.DbAns.TheVariants as db
-use Rattle.sml_syntax.specs.declared.database.WebCall.{WebCall}
-use Rattle.sml_syntax.specs.declared.database.WebCall.TheVariants as call
-use Rattle.sml_syntax.specs.declared.database.WebAns.{WebAns}
-use Rattle.sml_syntax.specs.declared.database.WebAns.TheVariants as answer
-use Rattle.sml_syntax.specs.CacheCalls.{cache_call_fits}
+use Rattle.web_data.specs.declared.cache.CacheCall.{CacheCall}
+use Rattle.web_data.specs.declared.cache.CacheAns.{CacheAns}
+use Rattle.web_data.specs.declared.database.DbCmd.{DbCmd}
+use Rattle.web_data.specs.declared.database.DbAns.{DbAns}
+use Rattle.web_data.specs.declared.database.DbAns.TheVariants as db
+use Rattle.web_data.specs.declared.database.WebCall.{WebCall}
+use Rattle.web_data.specs.declared.database.WebCall.TheVariants as call
+use Rattle.web_data.specs.declared.database.WebAns.{WebAns}
+use Rattle.web_data.specs.declared.database.WebAns.TheVariants as answer
+use Rattle.web_data.specs.CacheCalls.{cache_call_fits}
 use Rattle.outside_world.specs.FaultPlan.{FailsAsPlanned, plan_after}
 use Rattle.db_keeper.specs.Keeping.{KeeperMeaning}
 use Rattle.db_pool.specs.Handling.{IsFault, KeeperAnswers, replaced}

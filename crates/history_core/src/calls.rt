@@ -1,11 +1,12 @@
 // What makes the calls of requests.
 ghost use Rattle.std.specs.Prelude.{◌≡◌, ◌<◌, true, length, None, Some, slice_get, ℕ, List, IfOk, OnErr};
-ghost use Rattle.sml_syntax.specs.CacheCalls.{cache_call_fits, cache_answer_fits};
-ghost use Rattle.sml_syntax.specs.declared.database.WebCall.TheVariants as made;
-ghost use Rattle.sml_syntax.specs.declared.database.WebAns.TheVariants as given;
+ghost use Rattle.web_data.specs.CacheCalls.{cache_call_fits, cache_answer_fits};
+ghost use Rattle.web_data.specs.declared.database.WebCall.TheVariants as made;
+ghost use Rattle.web_data.specs.declared.database.WebAns.TheVariants as given;
 ghost use Rattle.history_core.specs.Calling.{Act, Begins, AnswersCache, LacksForCache, AnswersCommand, LacksForCommand, Ends, CallsMeaning, Began, IsRunning, IsAnswered, FitsOrFails, ended};
 
-use sml_syntax::{CacheAns, CacheCall, DbAns, DbCmd, NoMemory};
+use sml_syntax::NoMemory;
+use web_data::{CacheAns, CacheCall, DbAns, DbCmd};
 
 /// What makes the calls of requests, one request after another.
 pub trait Calls {

@@ -1,5 +1,5 @@
 // Entries of a history.
-use sml_syntax::{WebAns, WebCall};
+use web_data::{WebAns, WebCall};
 
 /// A call that was answered, with the number of the request that made it.
 #[derive(Debug, PartialEq, Eq, Drop)]

@@ -1,5 +1,5 @@
 // What may happen in the core.
-use sml_syntax::{CacheAns, CacheCall, DbAns, DbCmd};
+use web_data::{CacheAns, CacheCall, DbAns, DbCmd};
 
 /// One atomic step of a request, whose number comes first. A database is named by its number, from 0.
 #[derive(Debug, PartialEq, Eq, Drop)]

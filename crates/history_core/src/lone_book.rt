@@ -5,10 +5,11 @@ ghost use Rattle.history_core.specs.Book.{new_book, databases_of, HandleAnswers}
 
 use crate::Calls;
 use db_pool::Handled;
-use sml_syntax::{CacheAns, CacheCall, DbAns, DbCmd, NoMemory};
+use sml_syntax::NoMemory;
 use std::alloc::Global;
 use std::marker::Model;
 use web_cache::{Caches, group_of};
+use web_data::{CacheAns, CacheCall, DbAns, DbCmd};
 
 /// The caches and the databases of one worker. It waits for nobody, and keeps no history.
 #[derive(Drop)]

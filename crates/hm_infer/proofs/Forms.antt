@@ -16,7 +16,7 @@ use Rattle.sml_syntax.specs.declared.tree.DecForm.TheVariants as d
 use Rattle.sml_syntax.specs.declared.tree.Piece.{out-Piece, out-roll-Piece}
 use Rattle.sml_syntax.specs.declared.tree.Piece.TheVariants as p
 use Rattle.sml_syntax.specs.declared.tree.DecForm.TheOpen.{ExpForm-F, DecForm-F, Piece-F}
-use Rattle.sml_syntax.specs.Scope.{TypeBinding, DatatypeBinding, Constructors}
+use Rattle.typing_rules.specs.Scope.{TypeBinding, DatatypeBinding, Constructors}
 
 pub pat-any : {f : PatForm} → f ≡ w.Any → out-PatForm f ≡ PatForm-F.Any
 pat-any e = ap out-PatForm e ∙ ap out-PatForm (sym w.rolls-Any) ∙ out-roll-PatForm PatForm-F.Any

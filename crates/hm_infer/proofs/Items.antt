@@ -1,6 +1,6 @@
 -- Items of lists by their places.
 use Rattle.std.proofs.Common.{arith, ◌≡◌, sym, subst, ℕ, zero, suc, ◌<◌, List, [], ◌∷◌, length, get_or}
-use Rattle.sml_syntax.specs.Scope.{IsOneOf, first_one, other_one}
+use Rattle.typing_rules.specs.Scope.{IsOneOf, first_one, other_one}
 
 pub one-of-get : {A : Type 0} (xs : List A) (i : ℕ) (d : A) → i < length xs → IsOneOf (get_or xs i d) xs
 one-of-get [] i d h = absurd (omega (arith, h))

@@ -11,8 +11,8 @@ use Rattle.sml_syntax.specs.declared.tree.DecForm.{DecForm}
 use Rattle.sml_syntax.specs.declared.tree.ExpForm.{ExpForm}
 use Rattle.sml_syntax.specs.declared.tree.DecForm.TheOpen.{DecForm-F, ExpForm-F, Piece-F}
 use Rattle.sml_syntax.specs.Layers.{ExpLayer, DecLayer, form_of_exp, form_of_dec, form_of_pat}
-use Rattle.sml_syntax.specs.Scope.{IsOneOf, pat_parts}
-use Rattle.sml_syntax.specs.TypedPrograms.{item_place}
+use Rattle.typing_rules.specs.Scope.{IsOneOf, pat_parts}
+use Rattle.typing_rules.specs.TypedPrograms.{item_place}
 
 -- a tree of a program, of any sort; a function is a name with its rules
 pub data Tree : Type 0 where

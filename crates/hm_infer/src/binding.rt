@@ -1,16 +1,18 @@
 // What bindings generalise.
 use crate::context::Context;
 use crate::named::Named;
+use crate::stands::Stands;
 use hm_scheme::{Meaning, Scheme, Status, Stop};
 use sml_syntax::{Listed, NoMemory};
 
 impl Context {
-    /// Begins a binding, and answers its number.
-    pub(crate) fn begin_binding(&mut self) -> Result<u32, NoMemory> {
+    /// Begins a binding, whose first node is that one, and answers its number.
+    pub(crate) fn begin_binding(&mut self, node: usize) -> Result<u32, NoMemory> {
         let number = self.general.len();
-        if number >= 4_294_967_295 {
+        if number >= 4_294_967_295 || node >= 4_294_967_295 {
             return Err(NoMemory);
         }
+        self.begins.push(node as u32)?;
         self.general.push(Listed::of(Vec::new(self.alloc)))?;
         Ok(number as u32)
     }
@@ -32,23 +34,57 @@ impl Context {
         let mut general = Vec::new(self.alloc);
         for it in named {
             let variables = self.variables(it.class, mark)?;
-            let scheme = if variables.is_empty() {
-                Scheme::Held(it.class)
-            } else {
-                Scheme::General(it.class, mark)
-            };
-            let status = Status::Variable;
-            self.add(it.name, Meaning { status, scheme })?;
             for class in variables.as_slice() {
                 if is_first_time(&mut self.listed, number.saturating_add(1), *class) {
                     general.push(*class)?;
                 }
             }
         }
+        for it in named {
+            let scheme = if general.is_empty() {
+                Scheme::Held(it.class)
+            } else {
+                Scheme::General(self.over(general.as_slice(), it.class)?, mark)
+            };
+            let status = Status::Variable;
+            self.add(
+                it.name,
+                Meaning { status, scheme },
+                Stands::Bound(number, 0),
+            )?;
+        }
         if let Some(place) = self.general.get_mut(number as usize) {
             *place = Listed::of(general);
         }
         Ok(())
+    }
+
+    // The class of functions that take these classes one after the other, to that class: a copy of it holds a copy of each.
+    fn over(&mut self, classes: &[u32], class: u32) -> Result<u32, Stop> {
+        let mut whole = class;
+        for from in classes.iter().rev() {
+            whole = self.types.function(*from, whole)?;
+        }
+        Ok(whole)
+    }
+
+    /// An instance of such a class of functions for the variables of a binding: lists the classes put in, and answers where they
+    /// begin in the list, and the class that is left.
+    pub(crate) fn taken(&mut self, number: u32, class: u32) -> Result<(u32, u32), Stop> {
+        let first = self.put.len();
+        if first >= 4_294_967_295 {
+            return Err(Stop::NoMemory);
+        }
+        let count = match self.general.get(number as usize) {
+            Some(general) => general.as_slice().len(),
+            None => 0,
+        };
+        let mut rest = class;
+        for _ in 0..count {
+            self.put.push(self.types.part(rest, 0)?)?;
+            rest = self.types.part(rest, 1)?;
+        }
+        Ok((first as u32, rest))
     }
 
     // The variables of a class that aren't older than the mark. Each class is walked once.

@@ -2,6 +2,7 @@
 use crate::binding::are_distinct;
 use crate::context::Context;
 use crate::named::Named;
+use crate::stands::Stands;
 use hm_scheme::{PRELUDE_LONG, Stop, is_among, may_declare};
 use sml_syntax::{Exp, Listed, Rule, Text};
 
@@ -25,8 +26,8 @@ pub(crate) struct Group {
 
 impl Context {
     /// Begins a binding of `val`.
-    pub(crate) fn begin_bound(&mut self) -> Result<Bound, Stop> {
-        let number = self.begin_binding()?;
+    pub(crate) fn begin_bound(&mut self, node: usize) -> Result<Bound, Stop> {
+        let number = self.begin_binding(node)?;
         Ok(Bound {
             named: Vec::new(self.alloc),
             number,
@@ -64,22 +65,26 @@ impl Context {
             if bound.steady {
                 self.generalise(bound.number, bound.named.as_slice(), bound.mark)?;
             } else {
-                self.hold(bound.named.as_slice())?;
+                self.hold(bound.named.as_slice(), Stands::Bound(bound.number, 0))?;
             }
         }
         Ok(())
     }
 
     /// Begins `fun` or `val rec`: within the group each name has one type.
-    pub(crate) fn begin_group(&mut self, binds: &[(Text, Listed<Rule>)]) -> Result<Group, Stop> {
+    pub(crate) fn begin_group(
+        &mut self,
+        binds: &[(Text, Listed<Rule>)],
+        node: usize,
+    ) -> Result<Group, Stop> {
         if binds.is_empty() {
             return Err(Stop::Ill);
         }
-        let number = self.begin_binding()?;
+        let number = self.begin_binding(node)?;
         let mark = self.types.mark();
         let named = self.function_names(binds)?;
         let outer = self.values.depth();
-        self.hold(named.as_slice())?;
+        self.hold(named.as_slice(), Stands::Own(number))?;
         Ok(Group {
             named,
             number,
@@ -137,7 +142,7 @@ impl Context {
         self.types.unify(from, pattern)?;
         self.are_distinct(named)?;
         let outer = self.values.depth();
-        self.hold(named)?;
+        self.hold(named, Stands::Parameter)?;
         Ok(outer)
     }
 }

@@ -1,4 +1,5 @@
 // The context: names in scope with what they stand for, and the types so far.
+use crate::stands::{APPLIED_STAND, BASIS_EXCEPTIONS, CONSTANTS_STAND, Stands};
 use hm_scheme::{
     APPLIED, CONSTANTS, Meaning, Names, Plain, Scheme, Scope, Status, Stop, TYPES, TyName,
     TypeFunction, TypeMeaning, Types, VALUES, has_variables,
@@ -16,9 +17,23 @@ pub(crate) struct Context {
     pub(crate) values: Scope,
     pub(crate) type_names: Scope,
     pub(crate) meanings: Vec<Meaning>,
+    /// What the names of the meanings stand for.
+    pub(crate) origins: Vec<Stands>,
     pub(crate) functions: Vec<TypeFunction>,
     /// What each binding so far generalises.
     pub(crate) general: Vec<Listed<u32>>,
+    /// The node that each binding so far begins with.
+    pub(crate) begins: Vec<u32>,
+    /// What names stand for, by their nodes.
+    pub(crate) stands: Vec<Stands>,
+    /// The classes that uses of names put in.
+    pub(crate) put: Vec<u32>,
+    /// For each declared datatype the classes of its variables.
+    pub(crate) parameters: Vec<Listed<u32>>,
+    /// For each declared constructor and exception the class of its argument.
+    pub(crate) arguments: Vec<Option<u32>>,
+    /// How many exceptions there are.
+    pub(crate) exceptions: u32,
     /// For each class the last walk that met it, and the last binding that lists it.
     pub(crate) met: Vec<u32>,
     pub(crate) listed: Vec<u32>,
@@ -38,16 +53,23 @@ impl Context {
             values: Scope::new(alloc),
             type_names: Scope::new(alloc),
             meanings: Vec::new(alloc),
+            origins: Vec::new(alloc),
             functions: Vec::new(alloc),
             general: Vec::new(alloc),
+            begins: Vec::new(alloc),
+            stands: Vec::new(alloc),
+            put: Vec::new(alloc),
+            parameters: Vec::new(alloc),
+            arguments: Vec::new(alloc),
+            exceptions: BASIS_EXCEPTIONS,
             met: Vec::new(alloc),
             listed: Vec::new(alloc),
             walks: 0,
         };
         context.add_basis_types()?;
-        context.add_basis(&VALUES, Status::Variable)?;
-        context.add_basis(&CONSTANTS, Status::Constant)?;
-        context.add_basis(&APPLIED, Status::Applied)?;
+        context.add_basis(&VALUES, Status::Variable, &[])?;
+        context.add_basis(&CONSTANTS, Status::Constant, &CONSTANTS_STAND)?;
+        context.add_basis(&APPLIED, Status::Applied, &APPLIED_STAND)?;
         Ok(context)
     }
 
@@ -72,15 +94,17 @@ impl Context {
         &mut self,
         rows: &[(&'static str, &'static str)],
         status: Status,
+        origins: &[Stands],
     ) -> Result<(), Stop> {
-        for row in rows {
+        for (i, row) in rows.iter().enumerate() {
+            let origin = origins.get(i).copied().unwrap_or(Stands::Primitive);
             let name = self.name(row.0.as_bytes())?;
             let scheme = if has_variables(row.1.as_bytes()) {
                 Scheme::Spelt(row.1)
             } else {
                 Scheme::Held(self.types.spelt(row.1.as_bytes())?)
             };
-            self.add(name, Meaning { status, scheme })?;
+            self.add(name, Meaning { status, scheme }, origin)?;
         }
         Ok(())
     }
@@ -90,13 +114,19 @@ impl Context {
         self.names.number(self.alloc, name)
     }
 
-    /// Adds a value name to the scope.
-    pub(crate) fn add(&mut self, name: u32, meaning: Meaning) -> Result<(), NoMemory> {
+    /// Adds a value name to the scope, with what it stands for.
+    pub(crate) fn add(
+        &mut self,
+        name: u32,
+        meaning: Meaning,
+        origin: Stands,
+    ) -> Result<(), NoMemory> {
         let number = self.meanings.len();
         if number >= 4_294_967_295 {
             return Err(NoMemory);
         }
         self.meanings.push(meaning)?;
+        self.origins.push(origin)?;
         self.values.add(name, number as u32)
     }
 
@@ -117,6 +147,29 @@ impl Context {
         self.meanings.get(number as usize).copied()
     }
 
+    /// Where a value name comes from.
+    pub(crate) fn origin(&self, name: u32) -> Stands {
+        match self.values.find(name) {
+            Some(number) => self
+                .origins
+                .get(number as usize)
+                .copied()
+                .unwrap_or(Stands::Nothing),
+            None => Stands::Nothing,
+        }
+    }
+
+    /// Notes what the name of a node stands for.
+    pub(crate) fn note(&mut self, node: usize, stands: Stands) -> Result<(), NoMemory> {
+        for _ in self.stands.len()..node.saturating_add(1) {
+            self.stands.push(Stands::Nothing)?;
+        }
+        if let Some(place) = self.stands.get_mut(node) {
+            *place = stands;
+        }
+        Ok(())
+    }
+
     /// What a type name stands for.
     pub(crate) fn function(&mut self, name: &[u8]) -> Result<Option<&TypeFunction>, NoMemory> {
         let name = self.name(name)?;
@@ -133,26 +186,6 @@ impl Context {
             Scheme::General(class, mark) => self.types.copy(class, mark),
             Scheme::Spelt(steps) => self.types.spelt(steps.as_bytes()),
         }
-    }
-
-    /// The table of types, what its names stand for, and what each binding generalises.
-    pub(crate) fn finish(self) -> (TypeTable, Vec<TyName>, Vec<Listed<u32>>) {
-        let Context {
-            alloc: _,
-            types,
-            plain: _,
-            names: _,
-            values: _,
-            type_names: _,
-            meanings: _,
-            functions: _,
-            general,
-            met: _,
-            listed: _,
-            walks: _,
-        } = self;
-        let (table, names) = types.finish();
-        (table, names, general)
     }
 }
 

@@ -26,7 +26,7 @@ impl Inference {
             DecForm::Val(binds) => {
                 let mut bounds = Vec::new(self.context.alloc);
                 for bind in binds.as_slice() {
-                    let mut bound = self.context.begin_bound()?;
+                    let mut bound = self.context.begin_bound(self.nodes.len())?;
                     let pattern = self.pat(&bind.0, &mut bound.named)?;
                     let class = self.exp(&bind.1)?;
                     self.context.end_bound(&mut bound, pattern, class, &bind.1)?;
@@ -35,7 +35,9 @@ impl Inference {
                 self.context.add_bounds(bounds.as_slice())
             }
             DecForm::ValRec(binds) => {
-                let group = self.context.begin_group(binds.as_slice())?;
+                let group = self
+                    .context
+                    .begin_group(binds.as_slice(), self.nodes.len())?;
                 let functions = binds.as_slice();
                 for (i, bind) in functions.iter().enumerate() {
                     let (from, to) = self.context.function_of(&group, i)?;

@@ -1,6 +1,6 @@
 // Which declared types admit equality.
 use crate::context::{Context, flags};
-use crate::type_declaration::{Constructor, DatatypeBinding};
+use crate::type_declaration::{DatatypeBinding, Declared};
 use crate::written::place_of;
 use hm_scheme::Stop;
 use sml_syntax::{Text, Ty, TyForm};
@@ -131,7 +131,7 @@ impl Context {
     // Whether the arguments of all constructors admit equality.
     fn all_admit(
         &mut self,
-        constructors: &[Constructor],
+        constructors: &[Declared],
         own: &[DatatypeBinding],
         chosen: &[bool],
     ) -> Result<bool, Stop> {

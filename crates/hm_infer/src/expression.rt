@@ -28,7 +28,7 @@ impl Inference {
             ExpForm::Char(_) => Ok(self.context.plain.char),
             ExpForm::Str(_) => Ok(self.context.plain.string),
             ExpForm::Unit => Ok(self.context.plain.unit),
-            ExpForm::Name(name) => self.context.used(name),
+            ExpForm::Name(name) => self.context.used(name, self.nodes.len().saturating_sub(1)),
             ExpForm::Tuple(es) => {
                 let parts = self.exps(es.as_slice())?;
                 self.context.types.tuple(parts.as_slice())

@@ -12,6 +12,8 @@ use std::alloc::Global;
 pub(crate) struct Inference {
     pub(crate) context: Context,
     pub(crate) nodes: Vec<u32>,
+    /// For each node the number behind its last part, once it is known.
+    pub(crate) ends: Vec<u32>,
 }
 
 impl Inference {
@@ -22,6 +24,7 @@ impl Inference {
         Ok(Inference {
             context: Context::start(alloc, widest)?,
             nodes: Vec::new(alloc),
+            ends: Vec::new(alloc),
         })
     }
 
@@ -31,6 +34,7 @@ impl Inference {
     {
         let place = self.nodes.len();
         self.nodes.push(0)?;
+        self.ends.push(0)?;
         Ok(place)
     }
 
@@ -40,6 +44,9 @@ impl Inference {
     {
         if let Some(node) = self.nodes.get_mut(place) {
             *node = class;
+        }
+        if let Some(end) = self.ends.get_mut(place) {
+            *end = self.nodes.len().min(4_294_967_295) as u32;
         }
     }
 

@@ -16,6 +16,7 @@ mod named;
 mod pattern;
 mod program;
 mod refusal;
+mod stands;
 mod steady;
 mod type_declaration;
 mod typed;
@@ -24,4 +25,5 @@ mod written;
 
 pub use program::infer;
 pub use refusal::TypeRefusal;
+pub use stands::{BASIS_DATATYPES, BASIS_EXCEPTIONS, Stands};
 pub use typed::Typed;

@@ -1,6 +1,7 @@
 // Names that patterns bind.
 use crate::binding::are_distinct;
 use crate::context::Context;
+use crate::stands::Stands;
 use hm_scheme::{Meaning, Scheme, Status, Stop, is_long};
 use sml_syntax::Text;
 
@@ -13,7 +14,12 @@ pub(crate) struct Named {
 
 impl Context {
     /// The class of a name in a pattern: that of a constant, or of a name that is bound.
-    pub(crate) fn named_pat(&mut self, text: &Text, named: &mut Vec<Named>) -> Result<u32, Stop> {
+    pub(crate) fn named_pat(
+        &mut self,
+        text: &Text,
+        node: usize,
+        named: &mut Vec<Named>,
+    ) -> Result<u32, Stop> {
         let name = self.name(text.as_bytes())?;
         match self.meaning(name) {
             Some(
@@ -21,7 +27,10 @@ impl Context {
                     status: Status::Constant,
                     scheme,
                 },
-            ) => self.instance(scheme),
+            ) => {
+                self.note(node, self.origin(name))?;
+                self.instance(scheme)
+            }
             Some(
                 Meaning {
                     status: Status::Applied,
@@ -32,6 +41,7 @@ impl Context {
                 if is_long(text.as_bytes()) || text.as_bytes() == b"=".as_slice() {
                     return Err(Stop::Ill);
                 }
+                self.note(node, Stands::Parameter)?;
                 let class = self.types.var(false)?;
                 named.push(Named { name, class })?;
                 Ok(class)
@@ -40,11 +50,11 @@ impl Context {
     }
 
     /// Adds names to the scope, each with one type.
-    pub(crate) fn hold(&mut self, named: &[Named]) -> Result<(), Stop> {
+    pub(crate) fn hold(&mut self, named: &[Named], origin: Stands) -> Result<(), Stop> {
         for it in named {
             let scheme = Scheme::Held(it.class);
             let status = Status::Variable;
-            self.add(it.name, Meaning { status, scheme })?;
+            self.add(it.name, Meaning { status, scheme }, origin)?;
         }
         Ok(())
     }

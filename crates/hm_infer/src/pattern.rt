@@ -1,6 +1,6 @@
 // Patterns.
 ghost use Rattle.std.specs.Prelude.{length, map, OnOk};
-ghost use Rattle.sml_syntax.specs.Scope.{pat_parts};
+ghost use Rattle.typing_rules.specs.Scope.{pat_parts};
 ghost use Rattle.sml_syntax.specs.declared.tree.PatForm.{out-PatForm};
 ghost use Rattle.hm_infer.specs.Numbering.{Numbered, AllNumbered, a_pat};
 
@@ -31,7 +31,9 @@ impl Inference {
             PatForm::Char(_) => Ok(self.context.plain.char),
             PatForm::Str(_) => Ok(self.context.plain.string),
             PatForm::Unit => Ok(self.context.plain.unit),
-            PatForm::Name(name) => self.context.named_pat(name, named),
+            PatForm::Name(name) => self
+                .context
+                .named_pat(name, self.nodes.len().saturating_sub(1), named),
             PatForm::Tuple(ps) => {
                 let parts = self.pats(ps.as_slice(), named)?;
                 self.context.types.tuple(parts.as_slice())
@@ -41,8 +43,9 @@ impl Inference {
                 self.context.list_of(parts.as_slice())
             }
             PatForm::Con(name, argument) => {
+                let node = self.nodes.len().saturating_sub(1);
                 let class = self.pat(argument.get(), named)?;
-                self.context.constructed(name, class)
+                self.context.constructed(name, node, class)
             }
             PatForm::Typed(part, t) => {
                 let class = self.pat(part.get(), named)?;

@@ -1,10 +1,11 @@
 // Whole programs.
 ghost use Rattle.std.specs.Prelude.{◌≡◌, ℕ, length, Err, IfOk};
-ghost use Rattle.sml_syntax.specs.Scope.{AllBound, IsFirstUnbound};
-ghost use Rattle.sml_syntax.specs.TypedPrograms.{item_place};
+ghost use Rattle.typing_rules.specs.Scope.{AllBound, IsFirstUnbound};
+ghost use Rattle.typing_rules.specs.TypedPrograms.{item_place};
 ghost use Rattle.hm_infer.specs.Numbering.{HasNodes, IsItemPlace};
 ghost use Rattle.hm_infer.specs.declared.refusal.TypeRefusal.TheVariants.{Unbound, Ill};
 
+use crate::context::Context;
 use crate::inference::Inference;
 use crate::refusal::TypeRefusal;
 use crate::typed::Typed;
@@ -64,13 +65,33 @@ fn typed(program: Program, inference: Inference) -> Typed
     ensures program { result.program ≡ program }
     ensures types { length result.types ≡ length inference.nodes.items }
 {
-    let Inference { context, nodes } = inference;
-    let (table, names, general) = context.finish();
+    let Inference {
+        context,
+        nodes,
+        ends,
+    } = inference;
+    let Context {
+        types,
+        general,
+        begins,
+        stands,
+        put,
+        parameters,
+        arguments,
+        ..
+    } = context;
+    let (table, names) = types.finish();
     Typed {
         program,
         table,
         types: Listed::of(nodes),
+        ends: Listed::of(ends),
+        stands: Listed::of(stands),
+        put: Listed::of(put),
         names: Listed::of(names),
         general: Listed::of(general),
+        begins: Listed::of(begins),
+        parameters: Listed::of(parameters),
+        arguments: Listed::of(arguments),
     }
 }

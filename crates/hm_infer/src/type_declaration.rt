@@ -1,14 +1,15 @@
 // Declarations of types and exceptions.
 use crate::binding::are_distinct;
 use crate::context::{Context, flags};
+use crate::stands::{BASIS_DATATYPES, Stands};
 use hm_scheme::{Meaning, Scheme, Status, Stop, TypeFunction, TypeMeaning, is_long, may_construct};
-use sml_syntax::{Listed, Text, Ty, TyForm};
+use sml_syntax::{Constructor, Listed, Text, Ty, TyForm};
 
 pub(crate) type TypeBinding = (Listed<Text>, Text, Ty);
 
-pub(crate) type Constructor = (Text, Option<Ty>);
+pub(crate) type Declared = (Text, Option<Ty>);
 
-pub(crate) type DatatypeBinding = (Listed<Text>, Text, Listed<Constructor>);
+pub(crate) type DatatypeBinding = (Listed<Text>, Text, Listed<Declared>);
 
 // Whether arguments are just these variables.
 fn are_variables(names: &[Text], arguments: &[Ty]) -> bool {
@@ -137,6 +138,7 @@ impl Context {
         }
         self.check_datatypes(binds)?;
         let chosen = self.equal_datatypes(binds)?;
+        let first = self.types.declared.saturating_add(BASIS_DATATYPES);
         let mut numbers = Vec::new(self.alloc);
         for i in 0..binds.len() {
             let arity = binds[i].0.as_slice().len();
@@ -167,13 +169,15 @@ impl Context {
             let names = binds[i].0.as_slice();
             let classes = self.parameters(names, true)?;
             let result = self.types.con(number, classes.as_slice())?;
-            self.constructors(
-                binds[i].2.as_slice(),
-                names,
-                classes.as_slice(),
-                result,
-                mark,
-            )?;
+            let datatype = first.saturating_add(i.min(4_294_967_295) as u32);
+            for (place, constructor) in binds[i].2.as_slice().iter().enumerate() {
+                let origin = Stands::Con(Constructor::Data(
+                    datatype,
+                    place.min(4_294_967_295) as u32,
+                ));
+                self.constructor(constructor, names, classes.as_slice(), result, mark, origin)?;
+            }
+            self.parameters.push(Listed::of(classes))?;
         }
         Ok(())
     }
@@ -200,43 +204,46 @@ impl Context {
         are_distinct(values)
     }
 
-    fn constructor_number(&mut self, constructor: &Constructor) -> Result<u32, Stop> {
+    fn constructor_number(&mut self, constructor: &Declared) -> Result<u32, Stop> {
         if !may_construct(constructor.0.as_bytes()) {
             return Err(Stop::Ill);
         }
         Ok(self.name(constructor.0.as_bytes())?)
     }
 
-    // Adds constructors of this type, whose arguments have these variables.
-    fn constructors(
+    // Adds a constructor of this type, whose argument has these variables.
+    fn constructor(
         &mut self,
-        constructors: &[Constructor],
+        constructor: &Declared,
         names: &[Text],
         classes: &[u32],
         datatype: u32,
         mark: u32,
+        origin: Stands,
     ) -> Result<(), Stop> {
-        for constructor in constructors {
-            let name = self.name(constructor.0.as_bytes())?;
-            let (status, class) = match &constructor.1 {
-                Some(t) => {
-                    let argument = self.ty(t, names, classes)?;
-                    (Status::Applied, self.types.function(argument, datatype)?)
-                }
-                None => (Status::Constant, datatype),
-            };
-            let scheme = if names.is_empty() {
-                Scheme::Held(class)
-            } else {
-                Scheme::General(class, mark)
-            };
-            self.add(name, Meaning { status, scheme })?;
-        }
+        let name = self.name(constructor.0.as_bytes())?;
+        let (status, class) = match &constructor.1 {
+            Some(t) => {
+                let argument = self.ty(t, names, classes)?;
+                self.arguments.push(Some(argument))?;
+                (Status::Applied, self.types.function(argument, datatype)?)
+            }
+            None => {
+                self.arguments.push(None)?;
+                (Status::Constant, datatype)
+            }
+        };
+        let scheme = if names.is_empty() {
+            Scheme::Held(class)
+        } else {
+            Scheme::General(class, mark)
+        };
+        self.add(name, Meaning { status, scheme }, origin)?;
         Ok(())
     }
 
     /// `exception`: the names are bound after all types of arguments are read.
-    pub(crate) fn exceptions(&mut self, binds: &[Constructor]) -> Result<(), Stop> {
+    pub(crate) fn exceptions(&mut self, binds: &[Declared]) -> Result<(), Stop> {
         if binds.is_empty() {
             return Err(Stop::Ill);
         }
@@ -246,6 +253,11 @@ impl Context {
         }
         are_distinct(numbers)?;
         let mark = self.types.mark();
-        self.constructors(binds, &[], &[], self.plain.exn, mark)
+        for bind in binds {
+            let origin = Stands::Con(Constructor::Exn(self.exceptions));
+            self.constructor(bind, &[], &[], self.plain.exn, mark, origin)?;
+            self.exceptions = self.exceptions.saturating_add(1);
+        }
+        Ok(())
     }
 }

@@ -1,21 +1,39 @@
 // Uses of names and types, and what forms ask of the classes of their parts.
 use crate::context::Context;
+use crate::stands::Stands;
 use hm_scheme::{Meaning, Status, Stop};
 use sml_syntax::{Text, Ty};
 
 impl Context {
     /// The class of a name in an expression.
-    pub(crate) fn used(&mut self, name: &Text) -> Result<u32, Stop> {
+    pub(crate) fn used(&mut self, name: &Text, node: usize) -> Result<u32, Stop> {
         let name = self.name(name.as_bytes())?;
-        match self.meaning(name) {
-            Some(meaning) => self.instance(meaning.scheme),
-            None => Err(Stop::Ill),
+        let class = match self.meaning(name) {
+            Some(meaning) => self.instance(meaning.scheme)?,
+            None => return Err(Stop::Ill),
+        };
+        match self.origin(name) {
+            Stands::Bound(number, _) => {
+                let (first, rest) = self.taken(number, class)?;
+                self.note(node, Stands::Bound(number, first))?;
+                Ok(rest)
+            }
+            origin => {
+                self.note(node, origin)?;
+                Ok(class)
+            }
         }
     }
 
     /// The class of a constructor that a pattern applies to an argument of this class.
-    pub(crate) fn constructed(&mut self, name: &Text, argument: u32) -> Result<u32, Stop> {
+    pub(crate) fn constructed(
+        &mut self,
+        name: &Text,
+        node: usize,
+        argument: u32,
+    ) -> Result<u32, Stop> {
         let name = self.name(name.as_bytes())?;
+        self.note(node, self.origin(name))?;
         match self.meaning(name) {
             Some(
                 Meaning {

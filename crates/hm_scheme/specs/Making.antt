@@ -3,7 +3,7 @@ use Rattle.std.specs.Prelude.{◌≡◌, ℕ, ◌<◌, List, length}
 use Rattle.hm_types.specs.Classes.{TypeGraph, name_at, terms_of}
 use Rattle.hm_types.specs.Joining.{Within}
 use Rattle.hm_types.specs.Solving.{Joins, OneMore}
-use Rattle.sml_syntax.specs.TypeTerms.{made}
+use Rattle.type_terms.specs.TypeTerms.{made}
 
 -- the name is one of the table, the parts are its classes, and as many as the name takes
 abbrev pub IsApplied : TypeGraph → ℕ → List ℕ → Type 0

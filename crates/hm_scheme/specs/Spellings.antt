@@ -1,7 +1,7 @@
 -- The basis with its types spelt by steps: each step is a letter, which takes types from those before it. Of this project.
 use Rattle.std.specs.Prelude.{ℕ, ◌+◌, Bool, true, false, List, [], ◌∷◌, ◌++◌, map, Option, Some, None, codes, take, drop}
-use Rattle.sml_syntax.specs.TypeTerms.{place, plain, open_made, Schemes, no_schemes, schemes}
-use Rattle.sml_syntax.specs.BasisTable.{TypeName, Basis, Arrow, Tuple, Declared, BasisType, BasisScheme, BasisConstructor, basis_constructors, basis_exceptions, basis_values, exn_type, function_of}
+use Rattle.type_terms.specs.TypeTerms.{place, plain, open_made, Schemes, no_schemes, schemes}
+use Rattle.basis_table.specs.BasisTable.{TypeName, Basis, Arrow, Tuple, Declared, BasisType, BasisScheme, BasisConstructor, basis_constructors, basis_exceptions, basis_values, exn_type, function_of}
 use Rattle.hm_types.specs.Classes.{equality_by}
 use Rattle.hm_types.specs.declared.node.Equality.{Equality}
 

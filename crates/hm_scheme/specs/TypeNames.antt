@@ -2,8 +2,8 @@
 -- those of the basis, and the equality of type names that of the Definition of Standard ML, section 4.4.
 use Rattle.std.specs.Prelude.{◌≡◌, ℕ, ◌<◌, ◌-◌, List, ◌∷◌, ◌++◌, length, map, get_or, Option, Some, None, slice_get, option_map}
 use Rattle.std.specs.List.{range_with_len}
-use Rattle.sml_syntax.specs.TypeTerms.{NameEquality, NeverEqual, PartsEqual}
-use Rattle.sml_syntax.specs.BasisTable.{basis_types}
+use Rattle.type_terms.specs.TypeTerms.{NameEquality, NeverEqual, PartsEqual}
+use Rattle.basis_table.specs.BasisTable.{basis_types}
 use Rattle.hm_types.specs.Classes.{equality_by, name_at}
 use Rattle.hm_types.specs.declared.node.TypeName.{TypeName}
 use Rattle.hm_scheme.specs.declared.type_name.TyName.{TyName}

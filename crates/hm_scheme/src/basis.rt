@@ -3,7 +3,7 @@
 // of types with equality, a digit a tuple, `>` a function.
 ghost use Rattle.std.specs.Prelude.{◌≡◌, map, nat_eq, bytes_eq};
 ghost use Rattle.std.specs.List.{list_any};
-ghost use Rattle.sml_syntax.specs.BasisTable.{basis_types};
+ghost use Rattle.basis_table.specs.BasisTable.{basis_types};
 ghost use Rattle.hm_scheme.specs.Spellings.{type_row, value_rows, constant_rows, applied_rows};
 
 use hm_types::Equality;

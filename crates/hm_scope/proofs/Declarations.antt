@@ -8,7 +8,7 @@ use Rattle.sml_syntax.specs.declared.tree.Rule.{Rule}
 use Rattle.sml_syntax.specs.declared.tree.Dec.{Dec}
 use Rattle.sml_syntax.specs.declared.tree.DecForm.TheOpen.{DecForm-F}
 use Rattle.sml_syntax.specs.Layers.{DecLayer, form_of_dec}
-use Rattle.sml_syntax.specs.Scope.{Names, Binds, BindsAll, adds_val, adds_rec, adds_abbrev, adds_data, adds_exn, adds_local, inside, variables_only, as_variables, as_constructors, TypeBinding, DatatypeBinding, Constructors, first_parts, type_names, datatype_names, constructor_names, UnboundInType, UnboundInPat, UnboundInExp, UnboundInRule, UnboundInDec, in_val_pattern, in_val, in_function, in_abbreviation, in_datatype, in_exception, in_hidden, in_shown}
+use Rattle.typing_rules.specs.Scope.{Names, Binds, BindsAll, adds_val, adds_rec, adds_abbrev, adds_data, adds_exn, adds_local, inside, variables_only, as_variables, as_constructors, TypeBinding, DatatypeBinding, Constructors, first_parts, type_names, datatype_names, constructor_names, UnboundInType, UnboundInPat, UnboundInExp, UnboundInRule, UnboundInDec, in_val_pattern, in_val, in_function, in_abbreviation, in_datatype, in_exception, in_hidden, in_shown}
 use Rattle.hm_scope.specs.Least.{IsLeast, With, Seen, Sees, Some_of, SeesDec, SeesAbbreviations, SeesDatatypes, SeesExceptions, InArgument, InArguments}
 use Rattle.hm_scope.proofs.Leasts.{Lowers, lowers-to, sees-then, sees-to, sees-none, sees-nil, sees-next}
 use Rattle.hm_scope.proofs.Names.{binds-all-end}

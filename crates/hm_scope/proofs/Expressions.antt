@@ -7,14 +7,14 @@ use Rattle.sml_syntax.specs.declared.tree.Rule.{Rule}
 use Rattle.sml_syntax.specs.declared.tree.Piece.{Piece}
 use Rattle.sml_syntax.specs.declared.tree.DecForm.TheOpen.{ExpForm-F}
 use Rattle.sml_syntax.specs.Layers.{form_of_exp}
-use Rattle.sml_syntax.specs.Scope.{Names, IsOneOf, first_one, other_one, exp_parts, exp_rules, exp_type, exp_start, antiquoted, status, inside, AddsAll, UnboundInType, UnboundInExp, UnboundInRule, UnboundInDecs, unbound_name, in_part, in_rule, in_constraint, in_let, in_let_body}
+use Rattle.typing_rules.specs.Scope.{Names, IsOneOf, first_one, other_one, exp_parts, exp_rules, exp_type, exp_start, antiquoted, status, inside, AddsAll, UnboundInType, UnboundInExp, UnboundInRule, UnboundInDecs, unbound_name, in_part, in_rule, in_constraint, in_let, in_let_body}
 use Rattle.std.proofs.lemmas.List.{take_more}
 use Rattle.sml_syntax.specs.declared.tree.Piece.{out-Piece}
 use Rattle.sml_syntax.specs.declared.tree.DecForm.TheOpen.{Piece-F}
 use Rattle.sml_syntax.specs.declared.tree.DecForm.{DecForm}
 use Rattle.sml_syntax.specs.declared.tree.ExpForm.{ExpForm}
 use Rattle.sml_syntax.specs.declared.tree.ExpForm.TheVariants as u
-use Rattle.sml_syntax.specs.Scope.{with_antiquoted}
+use Rattle.typing_rules.specs.Scope.{with_antiquoted}
 use Rattle.hm_scope.specs.Least.{Seen, Sees, Some_of, InPiece}
 use Rattle.hm_scope.proofs.Forms.{exp-tuple, exp-list, exp-seq, exp-app, exp-both, exp-either, exp-case, exp-handle}
 use Rattle.hm_scope.proofs.Scopes.{InLet}

@@ -19,7 +19,7 @@ use Rattle.sml_syntax.specs.declared.tree.DecForm.TheVariants as d
 use Rattle.sml_syntax.specs.declared.tree.Piece.{out-Piece, out-roll-Piece}
 use Rattle.sml_syntax.specs.declared.tree.Piece.TheVariants as p
 use Rattle.sml_syntax.specs.declared.tree.DecForm.TheOpen.{ExpForm-F, DecForm-F, Piece-F}
-use Rattle.sml_syntax.specs.Scope.{TypeBinding, DatatypeBinding, Constructors}
+use Rattle.typing_rules.specs.Scope.{TypeBinding, DatatypeBinding, Constructors}
 
 pub ty-var : {f : TyForm} (name : List ℕ) → f ≡ v.Var name → out-TyForm f ≡ TyForm-F.Var name
 ty-var name e = ap out-TyForm e ∙ ap out-TyForm (sym (v.rolls-Var name)) ∙ out-roll-TyForm (TyForm-F.Var name)

@@ -3,7 +3,7 @@ use Rattle.std.proofs.Common.{arith, Bool, true, false, ◌++◌, ◌+◌, ◌<�
 use Rattle.std.specs.Option.{is_some}
 use Rattle.std.proofs.lemmas.List.{take_more, take_all}
 use Rattle.hm_scope.specs.Least.{IsLeast, With, Seen, Sees, Some_of}
-use Rattle.sml_syntax.specs.Scope.{Names, IsOneOf, first_one, other_one}
+use Rattle.typing_rules.specs.Scope.{Names, IsOneOf, first_one, other_one}
 
 abbrev pub Lowers : (ℕ → Type 0) → Option ℕ → Option ℕ → Type 0
 Lowers P f g = IsLeast (With f P) g

@@ -10,7 +10,7 @@ use Rattle.sml_syntax.specs.declared.tree.Pat.{Pat}
 use Rattle.sml_syntax.specs.declared.tree.Dec.{Dec}
 use Rattle.sml_syntax.specs.declared.tree.DecForm.TheOpen.{DecForm-F}
 use Rattle.sml_syntax.specs.Layers.{DecLayer, form_of_pat, form_of_dec}
-use Rattle.sml_syntax.specs.Scope.{Names, Binds, BindsAll, binds_name, binds_none, binds_parts, binds_end, binds_more, Adds, AddsAll, adds_val, adds_rec, adds_abbrev, adds_data, adds_exn, adds_local, adds_nothing, adds_more, inside, variables_only, as_constructors, is_constructor, status, pat_name, pat_parts, first_parts, type_names, datatype_names, constructor_names}
+use Rattle.typing_rules.specs.Scope.{Names, Binds, BindsAll, binds_name, binds_none, binds_parts, binds_end, binds_more, Adds, AddsAll, adds_val, adds_rec, adds_abbrev, adds_data, adds_exn, adds_local, adds_nothing, adds_more, inside, variables_only, as_constructors, is_constructor, status, pat_name, pat_parts, first_parts, type_names, datatype_names, constructor_names}
 use Rattle.hm_scope.proofs.Forms.{pat-tuple, pat-list}
 
 -- the names of a pattern that is a name

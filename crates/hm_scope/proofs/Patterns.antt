@@ -5,7 +5,7 @@ use Rattle.sml_syntax.specs.declared.tree.Pat.{Pat, out-Pat}
 use Rattle.sml_syntax.specs.declared.tree.PatForm.TheVariants as w
 use Rattle.sml_syntax.specs.declared.tree.PatForm.TheOpen.{PatForm-F}
 use Rattle.sml_syntax.specs.Layers.{form_of_pat}
-use Rattle.sml_syntax.specs.Scope.{Names, IsOneOf, first_one, other_one, pat_parts, pat_type, pat_start, status, UnboundInType, UnboundInPat, unbound_constructor, in_pat_part, in_pat_type}
+use Rattle.typing_rules.specs.Scope.{Names, IsOneOf, first_one, other_one, pat_parts, pat_type, pat_start, status, UnboundInType, UnboundInPat, unbound_constructor, in_pat_part, in_pat_type}
 use Rattle.hm_scope.specs.Least.{Seen, Sees, Some_of}
 use Rattle.hm_scope.proofs.Forms.{pat-tuple, pat-list}
 use Rattle.hm_scope.proofs.Leasts.{sees-to, sees-then, sees-nil, of-none}

@@ -5,7 +5,7 @@ use Rattle.std.proofs.Math.Seq.{take-append_seam, drop-append_seam, drop-cons}
 use Rattle.sml_syntax.specs.declared.tree.Exp.{Exp}
 use Rattle.sml_syntax.specs.declared.tree.Rule.{Rule, out-Rule}
 use Rattle.sml_syntax.specs.declared.tree.Dec.{Dec}
-use Rattle.sml_syntax.specs.Scope.{Names, Binds, Adds, AddsAll, adds_nothing, adds_more, inside, variables_only, UnboundInPat, UnboundInExp, UnboundInRule, UnboundInDec, UnboundInDecs, in_pattern, in_body, in_first, in_rest}
+use Rattle.typing_rules.specs.Scope.{Names, Binds, Adds, AddsAll, adds_nothing, adds_more, inside, variables_only, UnboundInPat, UnboundInExp, UnboundInRule, UnboundInDec, UnboundInDecs, in_pattern, in_body, in_first, in_rest}
 use Rattle.hm_scope.specs.Least.{IsLeast, With, Seen, Sees, Some_of, SeesDec, SeesDecs}
 use Rattle.hm_scope.proofs.Leasts.{Lowers, lowers-then, lowers-to, lowers-none}
 use Rattle.hm_scope.proofs.Names.{binds-same, adds-same, adds-all-same, adds-all-end, no_names, inside-inside}

@@ -2,7 +2,7 @@
 use Rattle.std.proofs.Common.{◌≡◌, ◌⊎◌, inl, inr, refl, sym, ◌∙◌, ap, subst, ℕ, true, false, List, [], ◌∷◌}
 use Rattle.sml_syntax.specs.declared.tree.Ty.{Ty}
 use Rattle.sml_syntax.specs.declared.tree.TyForm.TheOpen.{TyForm-F}
-use Rattle.sml_syntax.specs.Scope.{Names, form_of_type, type_parts, type_start, type_name_place, has_name, UnboundInType, unbound_variable, unbound_type, in_type_part}
+use Rattle.typing_rules.specs.Scope.{Names, form_of_type, type_parts, type_start, type_name_place, has_name, UnboundInType, unbound_variable, unbound_type, in_type_part}
 use Rattle.hm_scope.specs.Least.{Seen, Sees, Some_of}
 use Rattle.hm_scope.proofs.Leasts.{sees-to, sees-then, sees-two, of-none}
 

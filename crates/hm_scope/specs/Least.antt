@@ -3,7 +3,7 @@ use Rattle.std.specs.Prelude.{◌≡◌, ◌⊎◌, ℕ, ◌≤◌, List, [], �
 use Rattle.sml_syntax.specs.declared.tree.Ty.{Ty}
 use Rattle.sml_syntax.specs.declared.tree.Dec.{Dec}
 use Rattle.sml_syntax.specs.declared.tree.Piece.{Piece}
-use Rattle.sml_syntax.specs.Scope.{Names, IsOneOf, Adds, AddsAll, inside, antiquoted, Constructors, UnboundInType, UnboundInExp, UnboundInDec, UnboundInDecs, first_parts, TypeBinding, DatatypeBinding, as_constructors, constructor_names, type_names, datatype_names}
+use Rattle.typing_rules.specs.Scope.{Names, IsOneOf, Adds, AddsAll, inside, antiquoted, Constructors, UnboundInType, UnboundInExp, UnboundInDec, UnboundInDecs, first_parts, TypeBinding, DatatypeBinding, as_constructors, constructor_names, type_names, datatype_names}
 
 -- the least place that P holds of, none where it holds of none
 abbrev pub IsLeast : (ℕ → Type 0) → Option ℕ → Type 0

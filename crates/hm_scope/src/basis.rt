@@ -1,6 +1,6 @@
 // The names of the basis, the last ones first: the first of them is the innermost.
 ghost use Rattle.std.specs.Prelude.{◌≡◌, map, reverse, IfOk};
-ghost use Rattle.sml_syntax.specs.Scope.{basis_names};
+ghost use Rattle.typing_rules.specs.Scope.{basis_names};
 
 use sml_syntax::{NoMemory, Text};
 use std::alloc::Global;

@@ -1,6 +1,6 @@
 // Declarations: each leaves the names that it adds in scope.
 ghost use Rattle.std.specs.Prelude.{◌≡◌, ◌++◌, IfOk, OnOk};
-ghost use Rattle.sml_syntax.specs.Scope.{UnboundInType, first_parts, type_names, datatype_names, constructor_names};
+ghost use Rattle.typing_rules.specs.Scope.{UnboundInType, first_parts, type_names, datatype_names, constructor_names};
 ghost use Rattle.hm_scope.specs.Least.{Sees, Some_of, SeesDec, SeesDecs, SeesAbbreviations, SeesDatatypes, SeesExceptions, InArguments, InArgument};
 
 use crate::search::Search;

@@ -1,6 +1,6 @@
 // Expressions and matches.
 ghost use Rattle.std.specs.Prelude.{OnOk};
-ghost use Rattle.sml_syntax.specs.Scope.{UnboundInExp, UnboundInRule, antiquoted};
+ghost use Rattle.typing_rules.specs.Scope.{UnboundInExp, UnboundInRule, antiquoted};
 ghost use Rattle.hm_scope.specs.Least.{Sees, Some_of, InPiece};
 
 use crate::search::Search;

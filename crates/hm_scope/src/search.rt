@@ -1,6 +1,6 @@
 // A search for the least place without a binding, with the names in scope.
 ghost use Rattle.std.specs.Prelude.{◌≡◌, ◌++◌, ◌+◌, length, map, IfOk, OnOk, None, MatchOption};
-ghost use Rattle.sml_syntax.specs.Scope.{Names, status, has_name, basis_names, inside, AllBound, IsFirstUnbound};
+ghost use Rattle.typing_rules.specs.Scope.{Names, status, has_name, basis_names, inside, AllBound, IsFirstUnbound};
 ghost use Rattle.hm_scope.specs.Least.{Sees};
 
 use crate::basis::{basis_types, basis_values};
@@ -19,7 +19,7 @@ pub(crate) struct Search {
 
 impl Model for Search {
     ghost use Rattle.std.specs.Prelude.{reverse};
-    ghost use Rattle.sml_syntax.specs.Scope.{Names};
+    ghost use Rattle.typing_rules.specs.Scope.{Names};
     ghost use Rattle.hm_scope.specs.Least.{Seen};
 
     ghost Value = { Seen };

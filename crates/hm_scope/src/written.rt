@@ -1,6 +1,6 @@
 // Types and patterns: what in them has no binding, and the names that patterns bind.
 ghost use Rattle.std.specs.Prelude.{◌≡◌, ◌-◌, ◌++◌, length, OnOk};
-ghost use Rattle.sml_syntax.specs.Scope.{UnboundInType, UnboundInPat, Binds, BindsAll, has_name};
+ghost use Rattle.typing_rules.specs.Scope.{UnboundInType, UnboundInPat, Binds, BindsAll, has_name};
 ghost use Rattle.hm_scope.specs.Least.{Sees, Some_of};
 
 use crate::search::Search;

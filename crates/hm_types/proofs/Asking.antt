@@ -3,7 +3,7 @@ use Rattle.std.proofs.Common.{◌≡◌, ◌≢◌, ℕ, zero, suc, ◌+◌, ◌
 use Rattle.std.proofs.Math.Bool.{beq}
 use Rattle.std.proofs.Math.Nat.{min-le_left, min-le_right, min-eq_left, min-eq_right}
 use Rattle.std.proofs.lemmas.Bool.{cases_lt}
-use Rattle.sml_syntax.specs.TypeTerms.{Term, Terms, variable, made, no_terms, terms, admits, all_admit, of_flag, IsOver, AllOver, by_parts}
+use Rattle.type_terms.specs.TypeTerms.{Term, Terms, variable, made, no_terms, terms, admits, all_admit, of_flag, IsOver, AllOver, by_parts}
 use Rattle.hm_types.specs.declared.node.Node.{Node}
 use Rattle.hm_types.specs.declared.node.Node.TheVariants.{Variable, Made, Link}
 use Rattle.hm_types.specs.declared.node.Asked.{Asked}

@@ -1,6 +1,6 @@
 -- A table in solved form: its solutions are the choices at its variables.
 use Rattle.std.proofs.Common.{◌≡◌, ℕ, zero, suc, ◌<◌, List, [], ◌∷◌, length, Bool, true, false, refl, sym, ◌∙◌, subst, arith, ◌&&◌}
-use Rattle.sml_syntax.specs.TypeTerms.{variable, made, admits, all_admit, of_flag, IsOver, AllOver, by_parts, count_of}
+use Rattle.type_terms.specs.TypeTerms.{variable, made, admits, all_admit, of_flag, IsOver, AllOver, by_parts, count_of}
 use Rattle.hm_types.specs.declared.node.Node.{Node}
 use Rattle.hm_types.specs.declared.node.Node.TheVariants.{Variable, Made, Link}
 use Rattle.hm_types.specs.declared.node.Asked.{Asked}

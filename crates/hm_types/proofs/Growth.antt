@@ -1,6 +1,6 @@
 -- A table with one class, or one type name, more.
 use Rattle.std.proofs.Common.{◌≡◌, ℕ, zero, suc, ◌+◌, ◌<◌, ◌≤◌, List, [], ◌∷◌, ◌++◌, length, Bool, true, false, refl, ap, sym, ◌∙◌, subst, arith, length-append, append-nil, ◌⊎◌, inl, inr, ◌^◌, if◌then◌else◌}
-use Rattle.sml_syntax.specs.TypeTerms.{made}
+use Rattle.type_terms.specs.TypeTerms.{made}
 use Rattle.hm_types.specs.declared.node.Node.{Node}
 use Rattle.hm_types.specs.declared.node.Node.TheVariants.{Variable, Made, Link}
 use Rattle.hm_types.specs.declared.node.Asked.{Asked}

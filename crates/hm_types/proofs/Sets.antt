@@ -1,7 +1,7 @@
 -- One step of the unifier keeps the assignments.
 use Rattle.std.proofs.Common.{◌≡◌, ◌≢◌, ℕ, zero, suc, ◌+◌, ◌<◌, List, [], ◌∷◌, ◌++◌, length, Bool, true, false, refl, ap, sym, ◌∙◌, subst, arith, set, get_or-set_same, get_or-set_other, ◌⊎◌, inl, inr, nat_eq}
 use Rattle.std.proofs.lemmas.Bool.{eqb-true, eqb-false}
-use Rattle.sml_syntax.specs.TypeTerms.{terms}
+use Rattle.type_terms.specs.TypeTerms.{terms}
 use Rattle.hm_types.specs.declared.node.Node.{Node}
 use Rattle.hm_types.specs.declared.node.Node.TheVariants.{Variable}
 use Rattle.hm_types.specs.Classes.{Assign, at, terms_of, Holds, Respects}

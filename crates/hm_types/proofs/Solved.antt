@@ -1,6 +1,6 @@
 -- A table in which no type holds itself has an assignment for each choice at its variables, and only one.
 use Rattle.std.proofs.Common.{◌≡◌, ℕ, zero, suc, ◌+◌, ◌<◌, ◌≤◌, List, [], ◌∷◌, length, refl, ap, sym, ◌∙◌, subst, arith, get_or, ◌⊎◌, inl, inr}
-use Rattle.sml_syntax.specs.TypeTerms.{Term, Terms, variable, made, no_terms, terms}
+use Rattle.type_terms.specs.TypeTerms.{Term, Terms, variable, made, no_terms, terms}
 use Rattle.hm_types.specs.declared.node.Node.{Node}
 use Rattle.hm_types.specs.declared.node.Node.TheVariants.{Variable, Made, Link}
 use Rattle.hm_types.specs.Classes.{Assign, at, terms_of, part_list, Holds, Respects}

@@ -1,6 +1,6 @@
 -- The cases of the unifier's step.
 use Rattle.std.proofs.Common.{IfOk, Result, Ok, Err, ◌≡◌, ◌≢◌, ℕ, suc, ◌+◌, ◌-◌, ◌<◌, ◌≤◌, List, [], ◌∷◌, ◌++◌, length, drop, false, refl, ap, sym, ◌∙◌, subst, arith, get_or, set, length-set, length-take, length-drop, length-append, get_or-take, get_or-drop, ◌⊎◌, inl, inr}
-use Rattle.sml_syntax.specs.TypeTerms.{made}
+use Rattle.type_terms.specs.TypeTerms.{made}
 use Rattle.hm_types.specs.declared.node.Node.{Node}
 use Rattle.hm_types.specs.declared.node.Node.TheVariants.{Variable, Made, Link}
 use Rattle.hm_types.specs.Classes.{Assign, at, terms_of, part_list, Holds, Respects, Stands, stands_made, stands_free, stands_on}

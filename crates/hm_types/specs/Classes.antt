@@ -2,7 +2,7 @@
 use Rattle.std.proofs.Math.Dec.{ltb}
 use Rattle.std.specs.Prelude.{◌≡◌, ℕ, ◌+◌, ◌<◌, ◌≤◌, List, [], ◌∷◌, length, take, drop, Bool, true, false, Option, None, Some, if◌then◌else◌}
 use Rattle.std.proofs.Common.{get_or}
-use Rattle.sml_syntax.specs.TypeTerms.{Term, Terms, made, no_terms, terms, NameEquality, NeverEqual, AlwaysEqual, PartsEqual, admits, of_flag, IsOver}
+use Rattle.type_terms.specs.TypeTerms.{Term, Terms, made, no_terms, terms, NameEquality, NeverEqual, AlwaysEqual, PartsEqual, admits, of_flag, IsOver}
 use Rattle.hm_types.specs.declared.node.Node.{Node}
 use Rattle.hm_types.specs.declared.node.Node.TheVariants.{Variable, Made, Link}
 use Rattle.hm_types.specs.declared.node.Asked.{Asked}

@@ -7,7 +7,7 @@ ghost use Rattle.hm_types.specs.Kept.{Sorted, IsSettled, Joined};
 ghost use Rattle.hm_types.specs.Solving.{Solves, Solved, Joins, MostGeneral, HasNoUnifier, SameClasses, OneMore, IsDeclared, Grows};
 ghost use Rattle.hm_types.specs.declared.node.Node.TheVariants.{Variable};
 ghost use Rattle.hm_types.specs.declared.refusal.UnifyRefusal.TheVariants as refusal;
-ghost use Rattle.sml_syntax.specs.TypeTerms.{made};
+ghost use Rattle.type_terms.specs.TypeTerms.{made};
 
 use crate::copy::list_below;
 use crate::join::{join, root_of};

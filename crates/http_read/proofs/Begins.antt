@@ -1,7 +1,7 @@
 -- The messages of bytes, as bytes come and as messages are taken.
 use Rattle.std.proofs.Common.{◌≡◌, ℕ, ◌≤◌, false, List, [], ◌∷◌, ◌++◌, length, drop, refl, sym, ap, ◌∙◌, subst}
 use Rattle.std.proofs.lemmas.List.{drop-append-le}
-use Rattle.sml_syntax.specs.declared.request.Request.{Request}
+use Rattle.web_messages.specs.declared.request.Request.{Request}
 use Rattle.http_read.specs.Messages.{Message, HasFront, BeginsWith, last_closes}
 use Rattle.http_read.proofs.Fronts.{front_append}
 

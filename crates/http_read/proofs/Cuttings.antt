@@ -1,7 +1,7 @@
 -- However a stream is cut, the reader gives its messages.
 use Rattle.std.proofs.Common.{◌≡◌, ℕ, List, [], ◌∷◌, ◌++◌, drop, refl, sym, ap, ◌∙◌, subst, append_assoc}
 use Rattle.std.proofs.lemmas.List.{append-nil}
-use Rattle.sml_syntax.specs.declared.request.Request.{Request}
+use Rattle.web_messages.specs.declared.request.Request.{Request}
 use Rattle.http_read.specs.Cuts.{Act, Fed, Gave, Runs, bytes_fed, requests_given, new_reader, CutsDoNotMatter, AnswersEndMessages}
 use Rattle.http_read.specs.Messages.{BeginsWith, last_closes}
 use Rattle.http_read.specs.Reader.{ReaderState}

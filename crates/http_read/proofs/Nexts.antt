@@ -4,8 +4,8 @@ use Rattle.std.proofs.lemmas.List.{drop-drop}
 use Rattle.std.proofs.lemmas.Grind.{common_steps}
 use Rattle.std.proofs.lemmas.Result.{err_from_is_err_and}
 use Rattle.std.specs.Result.{IsErrAnd}
-use Rattle.sml_syntax.specs.declared.request.Request.{Request}
-use Rattle.sml_syntax.specs.declared.text.NoMemory.{NoMemory}
+use Rattle.web_messages.specs.declared.request.Request.{Request}
+use Rattle.no_memory.specs.declared.NoMemory.{NoMemory}
 use Rattle.http_read.specs.declared.reader.Stage.{Stage}
 use Rattle.http_read.specs.declared.reader.Next.{Next}
 use Rattle.http_read.specs.declared.reader.Next.TheVariants as next

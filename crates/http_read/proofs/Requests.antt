@@ -5,7 +5,7 @@ use Rattle.std.proofs.lemmas.List.{drop-take}
 use Rattle.httparse.specs.declared.spans.Span.{Span}
 use Rattle.httparse.specs.Grammar.{RequestHead}
 use Rattle.httparse.specs.Spans.{span_bytes, IsWithin}
-use Rattle.sml_syntax.specs.declared.request.Request.{Request}
+use Rattle.web_messages.specs.declared.request.Request.{Request}
 use Rattle.http_read.specs.declared.parts.Parts.{Parts}
 use Rattle.http_read.specs.Form.{form_pairs}
 use Rattle.http_read.specs.Head.{or_root, body_pairs}

@@ -1,6 +1,6 @@
 -- A reader that is fed piece by piece, and asked in between.
 use Rattle.std.specs.Prelude.{◌≡◌, ℕ, true, false, List, [], ◌∷◌, ◌++◌, length, None, Ok}
-use Rattle.sml_syntax.specs.declared.request.Request.{Request}
+use Rattle.web_messages.specs.declared.request.Request.{Request}
 use Rattle.http_read.specs.declared.reader.Next.TheVariants as next
 use Rattle.http_read.specs.Messages.{BeginsWith, Messages, Open, Bad, Closing, last_closes}
 use Rattle.http_read.specs.Reader.{ReaderState, Answers}

@@ -7,7 +7,7 @@ use Rattle.std.specs.List.{list_any, list_all, before_first, after_first, positi
 use Rattle.std.specs.Str.{str_eq_ignore_ascii_case}
 use Rattle.httparse.specs.Grammar.{RequestHead, trim_ows}
 use Rattle.httparse.specs.Spans.{name_and_value}
-use Rattle.sml_syntax.specs.declared.request.Request.{Request}
+use Rattle.web_messages.specs.declared.request.Request.{Request}
 use Rattle.http_read.specs.Form.{form_pairs}
 
 -- a field: its name, and its value without the spaces and tabs at its ends

@@ -2,7 +2,7 @@
 -- A function of whole lists, as a relation: pieces don't occur in it.
 use Rattle.std.specs.Prelude.{◌≡◌, ℕ, ◌+◌, ◌-◌, ◌<◌, ◌≤◌, ◌==◌, ◌⊎◌, Bool, true, false, ◌&&◌, nat_le, List, [], ◌∷◌, length, take, drop, count_by, slice_index}
 use Rattle.httparse.specs.Grammar.{RequestHead, ReadsRequest}
-use Rattle.sml_syntax.specs.declared.request.Request.{Request}
+use Rattle.web_messages.specs.declared.request.Request.{Request}
 use Rattle.http_read.specs.Head.{Refuses, Takes, judgement, request_of}
 
 -- Where a head ends

@@ -1,6 +1,6 @@
 -- What the code keeps of a head that it has read.
 use Rattle.std.specs.Prelude.{◌≡◌, ℕ, ◌⊎◌, List, ◌++◌, length, drop, Result, Ok, Err}
-use Rattle.sml_syntax.specs.declared.request.Request.{Request}
+use Rattle.web_messages.specs.declared.request.Request.{Request}
 use Rattle.http_read.specs.Form.{form_pairs}
 use Rattle.http_read.specs.Messages.{IsHead}
 use Rattle.httparse.specs.Grammar.{RequestHead}

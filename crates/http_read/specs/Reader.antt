@@ -1,6 +1,6 @@
 -- What the reader keeps.
 use Rattle.std.specs.Prelude.{◌≡◌, ℕ, ◌≤◌, Bool, List, length, take, drop, Option, Some, None, Result, Ok, Err}
-use Rattle.sml_syntax.specs.declared.text.NoMemory.{NoMemory}
+use Rattle.no_memory.specs.declared.NoMemory.{NoMemory}
 use Rattle.httparse.specs.Grammar.{RequestHead}
 use Rattle.http_read.specs.declared.reader.Stage.{Stage}
 use Rattle.http_read.specs.declared.reader.Stage.TheVariants as stage

@@ -3,8 +3,9 @@ ghost use Rattle.std.specs.Prelude.{◌≡◌, ◌++◌, IfOk, OnOk};
 ghost use Rattle.http_read.specs.Form.{form_text, form_pairs};
 
 use form_urlencoded::{decode, raw_pairs};
-use sml_syntax::{FormVars, Listed, NoMemory, Text};
+use sml_syntax::{Listed, NoMemory, Text};
 use std::alloc::Global;
+use web_messages::FormVars;
 
 /// The pairs of a query or of a form's body, decoded, in order. What isn't UTF-8 is replaced by U+FFFD.
 pub fn form_pairs(alloc: Global, text: &[u8]) -> Result<FormVars, NoMemory>

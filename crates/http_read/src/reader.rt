@@ -7,9 +7,10 @@ use crate::head::read_parts;
 use crate::parts::Parts;
 use crate::request::make_request;
 use crate::search::{Found, search};
-use sml_syntax::{NoMemory, Request};
+use sml_syntax::NoMemory;
 use std::alloc::Global;
 use std::marker::Model;
+use web_messages::Request;
 
 /// What the reader answers.
 #[derive(Debug, PartialEq, Eq, Drop)]

@@ -6,8 +6,9 @@ ghost use Rattle.http_read.specs.Parts.{request_at};
 
 use crate::form::push_pairs;
 use crate::parts::Parts;
-use sml_syntax::{FormVars, Listed, NoMemory, Request, Text};
+use sml_syntax::{Listed, NoMemory, Text};
 use std::alloc::Global;
+use web_messages::{FormVars, Request};
 
 // A path, which is `/` where it is empty.
 fn path_text(alloc: Global, path: &[u8]) -> Result<Text, NoMemory>

@@ -1,10 +1,10 @@
 -- The bytes of replies: RFC 9112, sections 4 and 5 (status line, field lines), RFC 9110, sections 8.6 (`Content-Length`),
 -- 10.2.1 (`Allow`) and 15 (statuses with their phrases).
 use Rattle.std.specs.Prelude.{◌≡◌, ℕ, ◌==◌, ◌⊎◌, Bool, true, List, [], ◌∷◌, ◌++◌, length, if◌then◌else◌, codes, decimal}
-use Rattle.sml_syntax.specs.declared.request.Reply.{Reply}
-use Rattle.sml_syntax.specs.declared.request.Reply.TheVariants as reply
-use Rattle.sml_syntax.specs.declared.request.Refusal.{Refusal}
-use Rattle.sml_syntax.specs.declared.request.Refusal.TheVariants as refusal
+use Rattle.web_messages.specs.declared.request.Reply.{Reply}
+use Rattle.web_messages.specs.declared.request.Reply.TheVariants as reply
+use Rattle.web_messages.specs.declared.request.Refusal.{Refusal}
+use Rattle.web_messages.specs.declared.request.Refusal.TheVariants as refusal
 
 -- CR LF
 abbrev pub line_end : List ℕ

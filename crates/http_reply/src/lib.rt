@@ -8,8 +8,9 @@ ghost use Rattle.std.specs.Prelude.{◌≡◌, IfOk};
 ghost use Rattle.http_reply.specs.ReplyBytes.{body_of, bytes_of, IsFaultStatus, fault_bytes};
 
 use head::message;
-use sml_syntax::{NoMemory, Reply, Text};
+use sml_syntax::{NoMemory, Text};
 use std::alloc::Global;
+use web_messages::Reply;
 use words::{OWN_TYPE, fault_body, refusal_body};
 
 /// The body of a finished reply, or the words of a refusal.

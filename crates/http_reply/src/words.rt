@@ -2,8 +2,9 @@
 ghost use Rattle.std.specs.Prelude.{◌≡◌, IfOk};
 ghost use Rattle.http_reply.specs.ReplyBytes.{phrase, fault_body, refusal_body};
 
-use sml_syntax::{NoMemory, Refusal};
+use sml_syntax::NoMemory;
 use std::alloc::Global;
+use web_messages::Refusal;
 
 pub const OWN_TYPE: &[u8] = b"text/plain; charset=utf-8";
 

@@ -1,13 +1,13 @@
 -- A step makes the charge greater, and lowers the number of regions made never.
-use Rattle.std.proofs.Common.{◌≡◌, ℕ, ◌+◌, ◌-◌, ◌^◌, ◌<◌, ◌≤◌, Bool, true, false, cond, List, [], ◌∷◌, length, take, Option, Some, None, refl, sym, subst, arith}
+use Rattle.std.proofs.Common.{◌≡◌, ℕ, suc, ◌+◌, ◌-◌, ◌^◌, ◌<◌, ◌≤◌, Bool, true, false, cond, List, [], ◌∷◌, length, take, Option, Some, None, refl, sym, subst, arith}
 use Rattle.std.specs.Prelude.{slice_get, nat_lt, nat_le, ◌&&◌, ◌==◌, reverse}
-use Rattle.sml_syntax.specs.declared.database.WebAns.{WebAns}
-use Rattle.sml_syntax.specs.declared.datum.Datum.{Datum}
-use Rattle.sml_syntax.specs.CallAnswers.{call_answer_fits}
+use Rattle.web_data.specs.declared.database.WebAns.{WebAns}
+use Rattle.web_data.specs.declared.datum.Datum.{Datum}
+use Rattle.web_data.specs.CallAnswers.{call_answer_fits}
 use Rattle.kam_code.specs.declared.code.Code.{Code}
 use Rattle.kam_code.specs.declared.instr.Instr.{Instr}
 use Rattle.kam_code.specs.Layout.{text_words}
-use Rattle.kam_code.specs.Memory.{region_words, pointer, field_at, with_field, laid_datum}
+use Rattle.kam_code.specs.Memory.{region_words, pointer, field_at, with_field, has_words, laid_datum}
 use Rattle.kam_code.specs.State.{Region, Frame, Handler, State}
 use Rattle.kam_code.specs.Step.{Uncaught, Next, Goes, Ends, Waits, Stuck, Result, Word, Nothing, Words, Text, Data, Throws, Fails, Body, Status, ContentType, Calls, NoStatement, Lacks, Shape, Reads, Moves, Jumps, One, Two, Three, Four, Allocates, Sets, Enters, Leaves, Halts, Opens, Closes, Handles, Unhandles, Raises, with_word, with_two, with_three, with_found, onward, grown, made_in, words_made, datum_made, lowest, raised_to, thrown, failed, raised, delivered, does, shape_of, act, step, resumed, goes_on, answered_by, entered_at, returned, closed, allocated, field_set, unhandled, without}
 use Rattle.kam_code.specs.Growth.{Later, Grows}
@@ -32,8 +32,8 @@ if_grows s false x y p q = q
 
 made_grows : (s u : State) (serial : ℕ) (more : List ℕ) (f : ℕ → State → Next) → Later s u → ((p : ℕ) (v : State) → Later s v → Grows s (f p v)) → Grows s (made_in serial more u f)
 made_grows s u serial more f l h =
-    found_grows s (region_words serial u.regions) (λ words. cond (nat_lt (length words + length more) (2 ^ 32)) (f (pointer serial (length words)) (grown serial more u)) Stuck)
-    (λ words. if_grows s (nat_lt (length words + length more) (2 ^ 32)) (f (pointer serial (length words)) (grown serial more u)) Stuck (h (pointer serial (length words)) (grown serial more u) (omega (arith, l.0), l.1)) tt)
+    found_grows s (region_words serial u.regions) (λ words. cond (nat_lt (length words) (2 ^ 32)) (f (pointer serial (length words)) (grown serial more u)) Stuck)
+    (λ words. if_grows s (nat_lt (length words) (2 ^ 32)) (f (pointer serial (length words)) (grown serial more u)) Stuck (h (pointer serial (length words)) (grown serial more u) (omega (arith, l.0), l.1)) tt)
 
 -- one step further
 next_grows : (s u : State) (stack : List ℕ) → Later s u → Grows s (Goes (onward stack u))
@@ -59,10 +59,14 @@ words_grows serial more stack s = made_grows s s serial more (λ p later. Goes (
 
 datum_grows : (serial : ℕ) (d : Datum) (stack : List ℕ) (s : State) → Grows s (datum_made serial d stack s)
 datum_grows serial d stack s =
-    found_grows s (region_words serial s.regions)
+    if_grows s (has_words d)
+    (with_found (region_words serial s.regions) (λ words. made_in serial (laid_datum d (pointer serial (length words))).0 s (λ p later. Goes (onward ((laid_datum d p).1 ∷ stack) later))))
+    (Goes (onward ((laid_datum d 0).1 ∷ stack) s))
+    (found_grows s (region_words serial s.regions)
     (λ words. made_in serial (laid_datum d (pointer serial (length words))).0 s (λ p later. Goes (onward ((laid_datum d p).1 ∷ stack) later)))
     (λ words. made_grows s s serial (laid_datum d (pointer serial (length words))).0 (λ p later. Goes (onward ((laid_datum d p).1 ∷ stack) later)) (omega arith, omega arith)
-    (λ p v l. next_grows s v ((laid_datum d p).1 ∷ stack) l))
+    (λ p v l. next_grows s v ((laid_datum d p).1 ∷ stack) l)))
+    (next_grows s s ((laid_datum d 0).1 ∷ stack) (omega arith, omega arith))
 
 -- each result
 delivered_grows : (code : Code) (s : State) (stack : List ℕ) (r : Result) → Grows s (delivered code s stack r)
@@ -125,8 +129,8 @@ does_grows code (Enters n) s =
 does_grows code Leaves s = word_grows s s.stack (λ v stack. returned v stack s.frames s) (λ v stack. returned_grows v stack s.frames s)
 does_grows code Halts s = (omega arith, omega arith)
 does_grows code Opens s =
-    if_grows s (nat_lt (s.made + 1) (2 ^ 32))
-    (Goes (onward ((s.made + 1) ∷ s.stack) (record s { regions = record { serial = s.made + 1; words = [] } ∷ s.regions; made = s.made + 1 })))
+    if_grows s (nat_lt (suc s.made) (2 ^ 32))
+    (Goes (onward (suc s.made ∷ s.stack) (record s { regions = record { serial = suc s.made; words = [] } ∷ s.regions; made = suc s.made })))
     Stuck (omega arith, omega arith) tt
 does_grows code Closes s = two_grows s s.stack (λ r v stack. closed r v stack s.regions s) (λ r v stack. closed_grows r v stack s.regions s)
 does_grows code (Handles a) s = (omega arith, omega arith)

@@ -1,8 +1,10 @@
 pub mod Examples
 pub mod Growth
+pub mod Held
 pub mod Layout
 pub mod Listing
 pub mod Memory
+pub mod Run
 pub mod State
 pub mod Step
 pub mod Word

@@ -5,15 +5,15 @@
 -- A text is a pointer to its length and bytes, a cache one to its name, whether it is `WhileUsed`, and twice whether there is a limit
 -- and that limit, for time and size. A value of `Web.Cache.ty` is 0.
 use Rattle.std.specs.Prelude.{ℕ, zero, suc, ◌+◌, ◌-◌, ◌*◌, ◌/◌, ◌%◌, ◌^◌, ◌==◌, nat_le, nat_lt, Bool, true, false, List, [], ◌∷◌, ◌++◌, length, drop, set, slice_get, Option, Some, None, option_map, option_and_then, if◌then◌else◌}
-use Rattle.sml_syntax.specs.declared.datum.Datum.{Datum}
-use Rattle.sml_syntax.specs.declared.datum.Datum.TheVariants as datum
-use Rattle.sml_syntax.specs.declared.datum.Datum.TheOpen.{Datum-F}
-use Rattle.sml_syntax.specs.declared.datum.Datum.TheFolds.{fold-Datum}
-use Rattle.sml_syntax.specs.declared.datum.Desc.{Desc}
-use Rattle.sml_syntax.specs.declared.datum.Desc.TheOpen.{Desc-F}
-use Rattle.sml_syntax.specs.declared.datum.Desc.TheFolds.{fold-Desc}
-use Rattle.sml_syntax.specs.declared.cache.CacheId.{CacheId}
-use Rattle.sml_syntax.specs.declared.cache.Kind.{Kind}
+use Rattle.web_data.specs.declared.datum.Datum.{Datum}
+use Rattle.web_data.specs.declared.datum.Datum.TheVariants as datum
+use Rattle.web_data.specs.declared.datum.Datum.TheOpen.{Datum-F}
+use Rattle.web_data.specs.declared.datum.Datum.TheFolds.{fold-Datum}
+use Rattle.web_data.specs.declared.datum.Desc.{Desc}
+use Rattle.web_data.specs.declared.datum.Desc.TheOpen.{Desc-F}
+use Rattle.web_data.specs.declared.datum.Desc.TheFolds.{fold-Desc}
+use Rattle.web_data.specs.declared.cache.CacheId.{CacheId}
+use Rattle.web_data.specs.declared.cache.Kind.{Kind}
 use Rattle.kam_code.specs.Layout.{text_words, text_at}
 use Rattle.kam_code.specs.State.{Region}
 use Rattle.kam_code.specs.Word.{word_of, number_of}
@@ -56,11 +56,6 @@ with_field p i word (region ∷ regions) =
     else None)
     else option_map (λ more. region ∷ more) (with_field p i word regions)
 
--- all words of the live regions: no list that ends has more cells
-abbrev pub all_words : List Region → ℕ
-all_words [] = 0
-all_words (region ∷ regions) = length region.words + all_words regions
-
 -- ---- lists and options
 
 -- what a word and those behind it give
@@ -72,21 +67,20 @@ abbrev pub all_three : {A B C D : Type 0} → (A → B → C → D) → Option A
 all_three f None b c = None
 all_three f (Some a) b c = and_both (f a) b c
 
--- the words of a list's items, of so many at the most: 0 is the empty list, and a cell is `::`, index 1, on a pair
-abbrev pub items_of : ℕ → ℕ → List Region → Option (List ℕ)
-items_of zero word regions = if word == 0 then Some [] else None
-items_of (suc n) word regions =
-    if word == 0 then Some []
-    else option_and_then (λ pair. and_both (λ item items. item ∷ items) (field_at pair 0 regions) (option_and_then (λ rest. items_of n rest regions) (field_at pair 1 regions)))
-    (argument_of_index 1 (field_at word 0 regions) (field_at word 1 regions))
-  where
-    argument_of_index : ℕ → Option ℕ → Option ℕ → Option ℕ
-    argument_of_index index None argument = None
-    argument_of_index index (Some i) argument = if i == index then argument else None
+-- a constructor's argument, where the constructor has this index
+abbrev pub argument_of_index : ℕ → Option ℕ → Option ℕ → Option ℕ
+argument_of_index index None argument = None
+argument_of_index index (Some i) argument = if i == index then argument else None
 
--- the words of a list's items
-abbrev pub list_at : ℕ → List Region → Option (List ℕ)
-list_at word regions = items_of (all_words regions) word regions
+-- The words of a list's items, followed for at most so many cells: 0 is the empty list, and a cell is `::`, index 1, on a pair.
+-- A step follows a list for at most as many cells as its state's charge. Each cell that was made was charged 4, so no list that was made is cut,
+-- and one that leads back to itself has no items.
+abbrev pub list_at : ℕ → ℕ → List Region → Option (List ℕ)
+list_at zero word regions = if word == 0 then Some [] else None
+list_at (suc most) word regions =
+    if word == 0 then Some []
+    else option_and_then (λ pair. and_both (λ item items. item ∷ items) (field_at pair 0 regions) (option_and_then (λ rest. list_at most rest regions) (field_at pair 1 regions)))
+    (argument_of_index 1 (field_at word 0 regions) (field_at word 1 regions))
 
 -- what a function gives of each, if it does of all
 abbrev pub of_each : {A B : Type 0} → (A → Option B) → List A → Option (List B)
@@ -94,8 +88,8 @@ of_each f [] = Some []
 of_each f (x ∷ xs) = and_both (λ y ys. y ∷ ys) (f x) (of_each f xs)
 
 -- the texts of a list of texts
-abbrev pub texts_at : ℕ → List Region → Option (List (List ℕ))
-texts_at word regions = option_and_then (of_each (λ p. text_behind p regions)) (list_at word regions)
+abbrev pub texts_at : ℕ → ℕ → List Region → Option (List (List ℕ))
+texts_at most word regions = option_and_then (of_each (λ p. text_behind p regions)) (list_at most word regions)
 
 -- the index of a constructor, if it is below that one
 abbrev pub index_below : ℕ → Option ℕ → Option ℕ
@@ -107,8 +101,8 @@ piece_at word regions =
     option_and_then (λ i. option_and_then (λ p. text_behind p regions) (field_at word 1 regions)) (index_below 2 (field_at word 0 regions))
 
 -- the texts of a quotation's pieces
-abbrev pub pieces_at : ℕ → List Region → Option (List (List ℕ))
-pieces_at word regions = option_and_then (of_each (λ p. piece_at p regions)) (list_at word regions)
+abbrev pub pieces_at : ℕ → ℕ → List Region → Option (List (List ℕ))
+pieces_at most word regions = option_and_then (of_each (λ p. piece_at p regions)) (list_at most word regions)
 
 -- the argument of an option: 0 is `NONE`, and `SOME` has the index 1
 abbrev pub option_at : ℕ → List Region → Option (Option ℕ)
@@ -118,28 +112,30 @@ option_at word regions =
 
 -- ---- data
 
+-- an option, by the word of its argument
+abbrev pub option_datum : (ℕ → Option Datum) → Option ℕ → Option Datum
+option_datum a None = Some (datum.Opt None)
+option_datum a (Some w) = option_map (λ x. datum.Opt (Some x)) (a w)
+
 -- the datum of a description that a word stands for, by the description's form, with what its parts read; a bool is below 2, a character below 256,
--- and unit is 0
-abbrev pub datum_by : Desc-F (ℕ → List Region → Option Datum) → ℕ → List Region → Option Datum
-datum_by Desc-F.Int word regions = Some (datum.Int (number_of word))
-datum_by Desc-F.Bool word regions = if nat_lt word 2 then Some (datum.Bool (word == 1)) else None
-datum_by Desc-F.Char word regions = if nat_lt word 256 then Some (datum.Char word) else None
-datum_by Desc-F.Str word regions = option_map datum.Str (text_behind word regions)
-datum_by Desc-F.Unit word regions = if word == 0 then Some datum.Unit else None
-datum_by (Desc-F.Pair a b) word regions =
+-- and unit is 0; lists are followed for at most so many cells
+abbrev pub datum_by : ℕ → Desc-F (ℕ → List Region → Option Datum) → ℕ → List Region → Option Datum
+datum_by most Desc-F.Int word regions = Some (datum.Int (number_of word))
+datum_by most Desc-F.Bool word regions = if nat_lt word 2 then Some (datum.Bool (word == 1)) else None
+datum_by most Desc-F.Char word regions = if nat_lt word 256 then Some (datum.Char word) else None
+datum_by most Desc-F.Str word regions = option_map datum.Str (text_behind word regions)
+datum_by most Desc-F.Unit word regions = if word == 0 then Some datum.Unit else None
+datum_by most (Desc-F.Pair a b) word regions =
     and_both datum.Pair (option_and_then (λ w. a w regions) (field_at word 0 regions)) (option_and_then (λ w. b w regions) (field_at word 1 regions))
-datum_by (Desc-F.Triple a b c) word regions =
+datum_by most (Desc-F.Triple a b c) word regions =
     all_three datum.Triple (option_and_then (λ w. a w regions) (field_at word 0 regions)) (option_and_then (λ w. b w regions) (field_at word 1 regions))
     (option_and_then (λ w. c w regions) (field_at word 2 regions))
-datum_by (Desc-F.Opt a) word regions = option_and_then (λ argument. of_argument argument) (option_at word regions) where
-  of_argument : Option ℕ → Option Datum
-  of_argument None = Some (datum.Opt None)
-  of_argument (Some w) = option_map (λ x. datum.Opt (Some x)) (a w regions)
-datum_by (Desc-F.List a) word regions = option_map datum.List (option_and_then (of_each (λ w. a w regions)) (list_at word regions))
+datum_by most (Desc-F.Opt a) word regions = option_and_then (option_datum (λ w. a w regions)) (option_at word regions)
+datum_by most (Desc-F.List a) word regions = option_map datum.List (option_and_then (of_each (λ w. a w regions)) (list_at most word regions))
 
 -- the datum that a word stands for
-abbrev pub datum_at : Desc → ℕ → List Region → Option Datum
-datum_at d = fold-Desc (ℕ → List Region → Option Datum) datum_by d
+abbrev pub datum_at : ℕ → Desc → ℕ → List Region → Option Datum
+datum_at most d = fold-Desc (ℕ → List Region → Option Datum) (datum_by most) d
 
 -- A datum laid out: from the pointer to its first word, its words and the word that stands for it.
 abbrev pub Laid : Type 0
@@ -200,6 +196,18 @@ laid_by (Datum-F.List parts) = list_laid parts
 
 abbrev pub laid_datum : Datum → Laid
 laid_datum d = fold-Datum Laid laid_by d
+
+-- whether a datum has words of its own, by its form
+abbrev pub has_words_by : Datum-F Bool → Bool
+has_words_by (Datum-F.Str text) = true
+has_words_by (Datum-F.Pair a b) = true
+has_words_by (Datum-F.Triple a b c) = true
+has_words_by (Datum-F.Opt (Some a)) = true
+has_words_by (Datum-F.List (part ∷ parts)) = true
+has_words_by _ = false
+
+abbrev pub has_words : Datum → Bool
+has_words d = fold-Datum Bool has_words_by d
 
 -- ---- caches
 

@@ -1,33 +1,33 @@
 -- The steps of the instructions.
 -- A step takes words off the stack, puts words onto it, and goes on to the next instruction. It costs 1,
--- and 1 more for each word that it writes into a region. The instructions are grouped by the shape of what they do, so that a
+-- and 1 more for each word that it writes into a region; no step writes into, reads from or ends a region that isn't live. The instructions are grouped by the shape of what they do, so that a
 -- proof by cases has the cases of `Shape` and of `Result`. Limits on stack, charge and body are no part of the steps.
 use Rattle.std.specs.Prelude.{◌≡◌, ◌≢◌, ℕ, zero, suc, ◌+◌, ◌-◌, ◌*◌, ◌/◌, ◌%◌, ◌^◌, ℤ, pos, ◌+ℤ◌, ◌-ℤ◌, ◌*ℤ◌, neg_ℤ, int_lt, int_le, nat_lt, nat_le, ◌==◌, Bool, true, false, not, ◌&&◌, List, [], ◌∷◌, ◌++◌, length, take, drop, reverse, set, slice_get, Option, Some, None, option_map, option_and_then, if◌then◌else◌}
 use Rattle.std.specs.List.{concat}
 use Rattle.std.specs.Ordering.{nat_cmp, ordering_index}
 use Rattle.std.specs.Cmp.Lexicographic.{slice_cmp}
-use Rattle.sml_syntax.specs.declared.database.WebCall.{WebCall}
-use Rattle.sml_syntax.specs.declared.database.WebCall.TheVariants as call
-use Rattle.sml_syntax.specs.declared.database.WebAns.{WebAns}
-use Rattle.sml_syntax.specs.declared.database.WebAns.TheVariants as answer
-use Rattle.sml_syntax.specs.declared.database.DbCmd.{DbCmd}
-use Rattle.sml_syntax.specs.declared.database.DbAns.{DbAns}
-use Rattle.sml_syntax.specs.declared.cache.CacheId.{CacheId}
-use Rattle.sml_syntax.specs.declared.cache.CacheOp.{CacheOp}
-use Rattle.sml_syntax.specs.declared.cache.CacheOp.TheVariants as op
-use Rattle.sml_syntax.specs.declared.cache.CacheAns.{CacheAns}
-use Rattle.sml_syntax.specs.declared.cache.CacheAns.TheVariants as told
-use Rattle.sml_syntax.specs.declared.datum.Datum.{Datum}
-use Rattle.sml_syntax.specs.declared.datum.Datum.TheVariants as datum
-use Rattle.sml_syntax.specs.declared.datum.Desc.{Desc}
-use Rattle.sml_syntax.specs.BasisFunctions.{quotient, modulus, is_zero, byte_of, byte_at, part_at, number_front, is_listed, text_under, texts_under, is_content_type, is_status, is_cache_name, limit_of, bad_type, bad_status, bad_cache_name, bad_cache_kind, no_database, failure_of, rows_of}
-use Rattle.sml_syntax.specs.StatementReading.{Told, Command, Outside, statement_of}
-use Rattle.sml_syntax.specs.CallAnswers.{call_answer_fits, text_list, row_list}
+use Rattle.web_data.specs.declared.database.WebCall.{WebCall}
+use Rattle.web_data.specs.declared.database.WebCall.TheVariants as call
+use Rattle.web_data.specs.declared.database.WebAns.{WebAns}
+use Rattle.web_data.specs.declared.database.WebAns.TheVariants as answer
+use Rattle.web_data.specs.declared.database.DbCmd.{DbCmd}
+use Rattle.web_data.specs.declared.database.DbAns.{DbAns}
+use Rattle.web_data.specs.declared.cache.CacheId.{CacheId}
+use Rattle.web_data.specs.declared.cache.CacheOp.{CacheOp}
+use Rattle.web_data.specs.declared.cache.CacheOp.TheVariants as op
+use Rattle.web_data.specs.declared.cache.CacheAns.{CacheAns}
+use Rattle.web_data.specs.declared.cache.CacheAns.TheVariants as told
+use Rattle.web_data.specs.declared.datum.Datum.{Datum}
+use Rattle.web_data.specs.declared.datum.Datum.TheVariants as datum
+use Rattle.web_data.specs.declared.datum.Desc.{Desc}
+use Rattle.sml_evaluation.specs.BasisFunctions.{quotient, modulus, is_zero, byte_of, byte_at, part_at, number_front, is_listed, text_under, texts_under, is_content_type, is_status, is_cache_name, limit_of, bad_type, bad_status, bad_cache_name, bad_cache_kind, no_database, failure_of, rows_of}
+use Rattle.web_data.specs.StatementReading.{Told, Command, Outside, statement_of}
+use Rattle.web_data.specs.CallAnswers.{call_answer_fits, text_list, row_list}
 use Rattle.kam_code.specs.declared.code.Code.{Code}
 use Rattle.kam_code.specs.declared.instr.Instr.{Instr}
 use Rattle.kam_code.specs.declared.instr.Instr.TheVariants as instr
 use Rattle.kam_code.specs.Layout.{text_words}
-use Rattle.kam_code.specs.Memory.{region_words, with_more, pointer, is_pointer, text_behind, field_at, with_field, list_at, texts_at, pieces_at, index_below, option_at, datum_at, Laid, laid_datum, number_of_bool, cache_words, cache_at}
+use Rattle.kam_code.specs.Memory.{region_words, with_more, pointer, is_pointer, text_behind, field_at, with_field, texts_at, pieces_at, index_below, option_at, datum_at, has_words, laid_datum, number_of_bool, cache_words, cache_at}
 use Rattle.kam_code.specs.State.{Region, Frame, Handler, State, start}
 use Rattle.kam_code.specs.Word.{word_of, number_of, fits, spelling}
 
@@ -77,11 +77,11 @@ pushed word stack state = Goes (onward (word ∷ stack) state)
 abbrev pub grown : ℕ → List ℕ → State → State
 grown serial more state = record state { regions = with_more serial more state.regions; charge = state.charge + length more }
 
--- words are made in a live region, which stays below 2 ^ 32 words; f goes on from their pointer
+-- words are made in a live region that has fewer than 2 ^ 32 words; f goes on from their pointer
 abbrev pub made_in : ℕ → List ℕ → State → (ℕ → State → Next) → Next
 made_in serial more state f =
     with_found (region_words serial state.regions) (λ words.
-    if nat_lt (length words + length more) (2 ^ 32)
+    if nat_lt (length words) (2 ^ 32)
     then f (pointer serial (length words)) (grown serial more state)
     else Stuck)
 
@@ -93,11 +93,13 @@ words_made serial more stack state = made_in serial more state (λ p later. push
 abbrev pub text_made : ℕ → List ℕ → List ℕ → State → Next
 text_made serial text stack state = words_made serial (text_words text) stack state
 
--- a datum: its words are made, and the word that stands for it goes onto the stack
+-- a datum: its words are made, and the word that stands for it goes onto the stack; one without words asks for no region
 abbrev pub datum_made : ℕ → Datum → List ℕ → State → Next
 datum_made serial d stack state =
+    if has_words d then
     with_found (region_words serial state.regions) (λ words.
     made_in serial (laid_datum d (pointer serial (length words))).0 state (λ p later. pushed (laid_datum d p).1 stack later))
+    else pushed (laid_datum d 0).1 stack state
 
 -- the lowest words, regions or frames
 abbrev pub lowest : {A : Type 0} → ℕ → List A → List A
@@ -254,12 +256,12 @@ cache_called code d e c state f =
     of_found (f id key value) (λ o. Calls (call.Cache (record { id = id; op = o }))))))
 
 abbrev pub looked_up : Code → ℕ → ℕ → ℕ → ℕ → State → Result
-looked_up code d e c k state = cache_called code d e c state (λ id key value. option_map op.Look (datum_at key k state.regions))
+looked_up code d e c k state = cache_called code d e c state (λ id key value. option_map op.Look (datum_at state.charge key k state.regions))
 
 abbrev pub inserted : Code → ℕ → ℕ → ℕ → ℕ → ℕ → State → Result
 inserted code d e c k v state =
     cache_called code d e c state (λ id key value.
-    option_and_then (λ x. option_map (op.Put x) (datum_at value v state.regions)) (datum_at key k state.regions))
+    option_and_then (λ x. option_map (op.Put x) (datum_at state.charge value v state.regions)) (datum_at state.charge key k state.regions))
 
 abbrev pub flushed : Code → ℕ → ℕ → ℕ → State → Result
 flushed code d e c state = cache_called code d e c state (λ id key value. Some op.Flush)
@@ -273,7 +275,7 @@ abbrev pub database_called : ℕ → ℕ → State → Result
 database_called p q state =
     of_found (text_behind p state.regions) (λ name.
     if is_listed name state.databases
-    then of_found (pieces_at q state.regions) (λ pieces. told_result name (statement_of (concat pieces)))
+    then of_found (pieces_at state.charge q state.regions) (λ pieces. told_result name (statement_of (concat pieces)))
     else Fails no_database)
 
 -- The shapes of instructions.
@@ -320,12 +322,12 @@ slid n [] = None
 slid n (v ∷ stack) = option_map (λ rest. v ∷ rest) (without n stack)
 
 -- where it goes on, by the word on the stack
+abbrev pub jumped_by : ℕ → ℕ → (ℕ → Bool) → List ℕ → Option (ℕ × List ℕ)
+jumped_by a next test [] = None
+jumped_by a next test (v ∷ stack) = Some (if test v then a else next, stack)
+
 abbrev pub jumped_if : ℕ → (ℕ → Bool) → State → Option (ℕ × List ℕ)
-jumped_if a test state = by_word state.stack
-  where
-    by_word : List ℕ → Option (ℕ × List ℕ)
-    by_word [] = None
-    by_word (v ∷ stack) = Some (if test v then a else state.address + 1, stack)
+jumped_if a test state = jumped_by a (state.address + 1) test state.stack
 
 abbrev pub compared : (ℤ → ℤ → Bool) → Shape
 compared test = Two (λ state a b. truth (test (number_of a) (number_of b)))
@@ -376,7 +378,7 @@ shape_of code instr.TextCut =
     Four (λ state p i n r. of_found (text_behind p state.regions) (λ text. text_or_subscript r (part_at text (number_of i) (number_of n))))
 shape_of code instr.TextCat =
     Three (λ state p q r. of_found (text_behind p state.regions) (λ first. of_found (text_behind q state.regions) (λ second. Text r (first ++ second))))
-shape_of code instr.TextConcat = Two (λ state p r. of_found (texts_at p state.regions) (λ texts. Text r (concat texts)))
+shape_of code instr.TextConcat = Two (λ state p r. of_found (texts_at state.charge p state.regions) (λ texts. Text r (concat texts)))
 shape_of code instr.TextCompare =
     Two (λ state p q. of_found (text_behind p state.regions) (λ first. of_found (text_behind q state.regions) (λ second.
     Word (ordering_index (slice_cmp nat_cmp first second)))))
@@ -429,10 +431,10 @@ returned result stack (frame ∷ frames) state =
 -- fewer than 2 ^ 32 regions are ever made
 abbrev pub opened : State → Next
 opened state =
-    if nat_lt (state.made + 1) (2 ^ 32)
-    then Goes (onward ((state.made + 1) ∷ state.stack) (record state {
-      regions = record { serial = state.made + 1; words = [] } ∷ state.regions;
-      made = state.made + 1;
+    if nat_lt (suc state.made) (2 ^ 32)
+    then Goes (onward (suc state.made ∷ state.stack) (record state {
+      regions = record { serial = suc state.made; words = [] } ∷ state.regions;
+      made = suc state.made;
     }))
     else Stuck
 

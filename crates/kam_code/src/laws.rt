@@ -5,10 +5,11 @@ ghost use Rattle.kam_code.specs.declared.code.Code.{Code};
 ghost use Rattle.kam_code.specs.State.{Region, State, start};
 ghost use Rattle.kam_code.specs.Layout.{text_words, text_from};
 ghost use Rattle.kam_code.specs.Memory.{region_words, with_more, pointer, text_behind};
-ghost use Rattle.kam_code.specs.Step.{End, Ends, Halted, Stuck, step, steps, resumed};
-ghost use Rattle.kam_code.specs.Growth.{Grows};
+ghost use Rattle.kam_code.specs.Step.{End, Goes, Ends, Halted, Stuck, step, steps, resumed};
+ghost use Rattle.kam_code.specs.Run.{Run, run_of, turn, CodeReaches};
+ghost use Rattle.kam_code.specs.Growth.{Grows, TurnGrows, TurnCalls};
 ghost use Rattle.kam_code.specs.Examples.{pair_code, pair_end, call_code, call_end, raise_code, raise_end};
-ghost use Rattle.sml_syntax.specs.declared.database.WebAns.{WebAns};
+ghost use Rattle.web_data.specs.declared.database.WebAns.{WebAns};
 
 /// A text that is laid out is read back, whatever follows it.
 pub fn text_is_read_back()
@@ -34,6 +35,17 @@ pub fn ended_run_lacks_no_step()
 pub fn steps_grow()
     ensures steps { (code : Code) (state : State) → Grows state (step code state) }
     ensures answers { (code : Code) (answer : WebAns) (state : State) → Grows state (resumed code answer state) }
+{}
+
+/// A step of a run with answers makes the charge greater, and never lowers the number of regions made. It makes one call at the most, which takes the first of the answers that are left.
+pub fn turns_go_on()
+    ensures grow { (code : Code) (run : Run) → TurnGrows run (turn code run) }
+    ensures calls { (code : Code) (run : Run) → TurnCalls run (turn code run) }
+{}
+
+/// Where steps from the start make no call, the code reaches their state whatever the answers.
+pub fn steps_are_reached()
+    ensures { (code : Code) (form : List (List ℕ × List ℕ)) (databases : List (List ℕ)) (answers : List WebAns) (n : ℕ) (final : State) → steps code n (start form databases) ≡ Goes final → CodeReaches code form databases answers (run_of answers [] final) }
 {}
 
 /// A pair is made in a region, read, and its region ends.

@@ -163,4 +163,9 @@ impl<P: Pages> RegionStore for PageStore<P> {
     fn height(&self) -> u64 {
         self.serials.len() as u64
     }
+
+    #[inline]
+    fn top(&self) -> Option<u64> {
+        self.serials.top()
+    }
 }

@@ -121,4 +121,9 @@ impl RegionStore for PlainStore {
     fn height(&self) -> u64 {
         self.serials.len() as u64
     }
+
+    #[inline]
+    fn top(&self) -> Option<u64> {
+        self.serials.top()
+    }
 }

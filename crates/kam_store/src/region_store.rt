@@ -1,6 +1,6 @@
-ghost use Rattle.std.specs.Prelude.{◌≡◌, ℕ, ◌+◌, ◌-◌, ◌*◌, ◌^◌, ◌<◌, ◌≤◌, ◌↔◌, None, length, take, IfOk, OnOk, OnErr, IsErr};
+ghost use Rattle.std.specs.Prelude.{◌≡◌, ℕ, ◌+◌, ◌-◌, ◌*◌, ◌^◌, ◌<◌, ◌≤◌, ◌↔◌, None, length, take, slice_get, IfOk, OnOk, OnErr, IsErr};
 ghost use Rattle.std.specs.Result.{IsErrOf, result_ok};
-ghost use Rattle.kam_store.specs.Store.{StoreState, AreSerials, length_at, words_at, word_at, with_region, with_word, with_live};
+ghost use Rattle.kam_store.specs.Store.{StoreState, AreSerials, serials_of, length_at, words_at, word_at, with_region, with_word, with_live};
 ghost use Rattle.kam_store.specs.Writing.{Writes, LacksPage, LacksMemory};
 
 /// Why a region or a write was refused.
@@ -75,4 +75,8 @@ pub trait RegionStore {
     fn height(&self) -> u64
         ensures height { result ≡ length (store self.now).live }
         ensures serials { AreSerials (store self.now) };
+
+    /// The serial of the highest region.
+    fn top(&self) -> Option<u64>
+        ensures { result ≡ slice_get (serials_of (store self.now).live) (length (store self.now).live - 1) };
 }

@@ -1,4 +1,4 @@
-ghost use Rattle.std.specs.Prelude.{◌≡◌, ℕ, ◌+◌, ◌^◌, ◌<◌, ◌≤◌, [], ◌∷◌, ◌++◌, length, take, slice_get, Some, None, IfOk, OnOk, OnErr, IfSome, IsNone};
+ghost use Rattle.std.specs.Prelude.{◌≡◌, ℕ, ◌+◌, ◌-◌, ◌^◌, ◌<◌, ◌≤◌, [], ◌∷◌, ◌++◌, length, take, slice_get, Some, None, IfOk, OnOk, OnErr, IfSome, IsNone};
 ghost use Rattle.kam_store.specs.Store.{RisesTo};
 
 use page_pool::NoMemory;
@@ -73,6 +73,14 @@ impl Serials {
     {
         let _ = &self.made;
         self.live.len()
+    }
+
+    /// The last one.
+    #[inline]
+    pub(crate) fn top(&self) -> Option<u64>
+        ensures { result ≡ slice_get self.now.live (length self.now.live - 1) }
+    {
+        self.live.as_slice().last().copied()
     }
 
     /// The place of a live serial.

@@ -170,6 +170,7 @@ pub(crate) fn region_forms(rt: &(impl Abort + AllocGlobal)) -> [RExp; 23] {
 
 pub(crate) fn region_program(rt: &(impl Abort + AllocGlobal)) -> RProgram {
     let data = MData {
+        declaration: 6,
         params: 1,
         cons: list(
             rt,

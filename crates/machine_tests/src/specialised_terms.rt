@@ -125,6 +125,7 @@ pub(crate) fn ground_forms(rt: &(impl Abort + AllocGlobal)) -> [MExp; 20] {
 
 pub(crate) fn ground_program(rt: &(impl Abort + AllocGlobal)) -> MProgram {
     let data = MData {
+        declaration: 6,
         params: 1,
         cons: list(
             rt,

@@ -1,4 +1,3 @@
 pub mod Told
 pub mod FaultPlan
 pub mod Stored
-pub mod Answering

@@ -7,14 +7,12 @@
 //!
 //! Each object counts its faults. A call answers `Failed` only where its count rose, and no count falls.
 
-mod answerer;
 mod clock;
 mod connection;
 mod files;
 mod memory;
 mod stream;
 
-pub use answerer::Answerer;
 pub use clock::Clock;
 pub use connection::{Both, Conn};
 pub use files::{FileRefusal, Files};

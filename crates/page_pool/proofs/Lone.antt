@@ -1,4 +1,5 @@
 -- What a lone pool's calls leave, over plain lists.
+use Rattle.std.specs.Prelude.{Option, None}
 use Rattle.std.proofs.Common.{sym, max, Some, refl, ◌≡◌, ℕ, ◌+◌, ◌-◌, ◌<◌, List, [], ◌∷◌, ◌++◌, length, ap, subst, ◌∙◌, arith}
 use Rattle.std.proofs.lemmas.Bool.Decides.{nat_tests}
 use Rattle.std.proofs.lemmas.List.{map_push, length-append, length-map}
@@ -6,7 +7,7 @@ use Rattle.page_pool.specs.Holding.{times, IsWith, TakesPage, FindsNone, GivesPa
 use Rattle.page_pool.specs.PageWords.{number_of, words_of}
 use Rattle.page_pool.specs.declared.page.Page.{Page}
 use Rattle.page_pool.specs.Lone.{LonePages, left_of, numbers_of, lone_holding, AreOnce, HasEachOnce}
-use Rattle.page_pool.specs.Kept.{numbers}
+use Rattle.page_pool.specs.PageWords.{numbers}
 use Rattle.page_pool.proofs.Times.{times-append, times-left_of, length-left_of, length-range, times-range, times-le-length}
 
 -- how many are out
@@ -95,6 +96,11 @@ found_none old new once e free made peak low dries =
       dries = dries;
       mark = made;
     }
+
+-- so the least of its lows is the number of pages
+pub full_low : (low : Option ℕ) (made : ℕ) → ((n : ℕ) → low ≡ Some n → n ≡ made) → Some made ≡ Some (lesser low made)
+full_low None made full = refl
+full_low (Some n) made full = ap Some (let e = full n refl in omega arith)
 
 -- a page has 128 words
 pub whole : (p : Page) → length (words_of p) ≡ 128

@@ -1,6 +1,8 @@
 -- How often a number stands in a list, and in what is left of one.
 use Rattle.std.proofs.Common.{◌≡◌, ℕ, ◌+◌, ◌-◌, ◌<◌, ◌≤◌, List, [], ◌∷◌, ◌++◌, length, refl, ap, ◌∙◌, arith, zero, suc, add-zero, add-one}
 use Rattle.std.proofs.lemmas.Bool.Decides.{nat_tests}
+use mathlib.Core.Logic.{dite}
+use native.Mathlib.Decide.{ℕ_discrete}
 use Rattle.std.specs.List.{range_with_len}
 use Rattle.page_pool.specs.Holding.{times}
 use Rattle.page_pool.specs.Lone.{without, left_of}
@@ -54,3 +56,9 @@ range-suc a (suc n) = ap (λ xs. a ∷ xs) (range-suc (a + 1) n ∙ ap (λ m. ra
 
 pub range-push : (a n : ℕ) → range_with_len a (n + 1) ≡ range_with_len a n ++ (a + n) ∷ []
 range-push a n = rw add-one (range-suc a n)
+
+-- a number that stands in a list stands there at least as often as by itself
+pub times-one : (k n : ℕ) (ns : List ℕ) → 0 < times n ns → times k (n ∷ []) ≤ times k ns
+times-one k n ns there = dite (ℕ_discrete k n)
+    (λ e. let a : times k (n ∷ []) ≤ 1 = grind (arith, nat_tests) in let b = ap (λ (l : ℕ). times l ns) e in omega (arith, a, b, there))
+    (λ ne. let a : times k (n ∷ []) ≡ 0 = grind (arith, nat_tests) in omega (arith, a))

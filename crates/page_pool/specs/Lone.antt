@@ -1,5 +1,5 @@
 -- A pool that one taker has to itself.
-use Rattle.std.specs.Prelude.{◌≡◌, ℕ, ◌+◌, ◌≤◌, List, [], ◌∷◌, Option, if◌then◌else◌, ◌==◌}
+use Rattle.std.specs.Prelude.{◌≡◌, ℕ, ◌+◌, ◌≤◌, List, [], ◌∷◌, Option, Some, if◌then◌else◌, ◌==◌}
 use Rattle.std.specs.List.{range_with_len}
 use Rattle.page_pool.specs.Holding.{Holding, times}
 
@@ -32,6 +32,10 @@ lone_holding p = record { out = left_of (numbers_of p.made) p.free; peak = p.pea
 -- each of a pool's numbers is in the pool or with its taker, and there is no other
 abbrev pub HasEachOnce : LonePages → Type 0
 HasEachOnce p = (k : ℕ) → times k p.free + times k (lone_holding p).out ≡ times k (numbers_of p.made)
+
+-- where none was to be had, all of its pages were out
+abbrev pub HasFullLow : LonePages → Type 0
+HasFullLow p = (n : ℕ) → p.low ≡ Some n → n ≡ p.made
 
 -- no number stands twice, and each is one of a pool's
 pub record AreOnce (made : ℕ) (ns : List ℕ) : Type 0 where

@@ -4,24 +4,16 @@
 mod lone_pool;
 mod page;
 mod pages;
+mod pass;
+mod pool;
+mod pool_user;
+mod steps;
+mod view;
 
 pub use lone_pool::LonePool;
+pub use no_memory::NoMemory;
 pub use page::Page;
 pub use pages::Pages;
-use std::alloc::{AllocError, AllocFailed};
-
-/// Want of memory.
-#[derive(Clone, Copy, Debug, PartialEq, Eq)]
-pub struct NoMemory;
-
-impl From<AllocError> for NoMemory {
-    fn from(_: AllocError) -> NoMemory {
-        NoMemory
-    }
-}
-
-impl<T: Drop> From<AllocFailed<T>> for NoMemory {
-    fn from(_: AllocFailed<T>) -> NoMemory {
-        NoMemory
-    }
-}
+pub use pass::PoolPass;
+pub use pool::Pool;
+pub use pool_user::{PoolMark, PoolUser};

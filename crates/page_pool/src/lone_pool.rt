@@ -1,6 +1,6 @@
 ghost use Rattle.std.specs.Prelude.{◌≡◌, ◌<◌, ◌↔◌, [], None, IfOk, IfSome, IfNone, IsNone};
-ghost use Rattle.page_pool.specs.Holding.{TakesPage, FindsNone, GivesPage, lesser, times};
-ghost use Rattle.page_pool.specs.Lone.{lone_holding, numbers_of, HasEachOnce};
+ghost use Rattle.page_pool.specs.Holding.{TakesPage, FindsNone, GivesPage, times};
+ghost use Rattle.page_pool.specs.Lone.{lone_holding, numbers_of, HasEachOnce, HasFullLow};
 ghost use Rattle.page_pool.specs.PageWords.{number_of};
 
 use crate::{NoMemory, Page, Pages};
@@ -23,7 +23,8 @@ impl Model for LonePool {
 
     ghost Value = { LonePages };
 
-    ghost use Rattle.page_pool.specs.Kept.{numbers, IsLone};
+    ghost use Rattle.page_pool.specs.Kept.{IsLone};
+    ghost use Rattle.page_pool.specs.PageWords.{numbers};
 
     ghost view = { λ p. record { free = numbers p.free.items; made = p.made; peak = p.peak; low = p.low; dries = p.dries } };
 
@@ -35,13 +36,8 @@ impl LonePool {
     pub fn make(alloc: Global, pages: u32) -> Result<LonePool, NoMemory>
         ensures { IfOk result (λ pool. pool ≡ record { free = numbers_of pages; made = pages; peak = 0; low = None; dries = 0 }) }
     {
-        let mut free = Vec::with_capacity(alloc, pages as usize)?;
-        for number in 0..pages {
-            let page = Page::make(alloc, number)?;
-            free.push_reserved(page);
-        }
         Ok(LonePool {
-            free,
+            free: Page::make_all(alloc, pages)?,
             made: pages,
             peak: 0,
             low: None,
@@ -61,6 +57,7 @@ impl Pages for LonePool {
         ensures dry { IfNone result (FindsNone (lone_holding self.old) (lone_holding self.new)) }
         ensures exact { IsNone result ↔ (self.old.free ≡ []) }
         ensures each { HasEachOnce self.new }
+        ensures full { HasFullLow self.new }
     {
         match self.free.pop() {
             Some(page) => {
@@ -69,7 +66,7 @@ impl Pages for LonePool {
                 Some(page)
             }
             None => {
-                self.low = Some(least(self.low, self.made));
+                self.low = Some(self.made);
                 self.dries = self.dries.saturating_add(1);
                 None
             }
@@ -81,22 +78,17 @@ impl Pages for LonePool {
         requires { 0 < times (number_of page) (lone_holding self.old).out }
         ensures given { GivesPage (lone_holding self.old) (number_of page) (lone_holding self.new) }
         ensures each { HasEachOnce self.new }
+        ensures full { HasFullLow self.new }
     {
         self.free.push_reserved(page);
     }
 
     #[inline]
-    fn dries(&self) -> u64 {
+    fn dries(&self) -> u64
+        ensures dries { result ≡ (lone_holding self.now).dries }
+        ensures each { HasEachOnce self.now }
+        ensures full { HasFullLow self.now }
+    {
         self.dries
-    }
-}
-
-// The lesser of a number that may be absent and one that is there.
-fn least(low: Option<u32>, number: u32) -> u32
-    ensures { result ≡ lesser low number }
-{
-    match low {
-        Some(low) => low.min(number),
-        None => number,
     }
 }

@@ -16,7 +16,9 @@ pub struct Page {
 }
 
 impl Page {
-    ghost use Rattle.page_pool.specs.PageWords.{number_of, words_of};
+    ghost use Rattle.page_pool.specs.PageWords.{number_of, numbers, words_of};
+    ghost use Rattle.page_pool.specs.Lone.{numbers_of};
+    ghost use Rattle.std.specs.Prelude.{◌≤◌, vec_capacity};
 
     // A page of zeros.
     pub(crate) fn make(alloc: Global, number: u32) -> Result<Page, NoMemory>
@@ -24,6 +26,19 @@ impl Page {
     {
         let words = vec![in alloc; 0u64; PAGE_WORDS]?;
         Ok(Page { number, words })
+    }
+
+    // So many pages, numbered from 0 on.
+    pub(crate) fn make_all(alloc: Global, pages: u32) -> Result<Vec<Page>, NoMemory>
+        ensures numbers { IfOk result (λ all. numbers all.items ≡ numbers_of pages) }
+        ensures room { IfOk result (λ all. pages ≤ vec_capacity all) }
+    {
+        let mut all = Vec::with_capacity(alloc, pages as usize)?;
+        for number in 0..pages {
+            let page = Page::make(alloc, number)?;
+            all.push_reserved(page);
+        }
+        Ok(all)
     }
 
     /// The word at a place.

@@ -4,7 +4,7 @@ use Rattle.std.specs.Fmt.{decimal}
 use Rattle.sml_syntax.specs.declared.tree.Span.{Span}
 use Rattle.sml_syntax.specs.declared.tree.Exp.{Exp}
 use Rattle.sml_syntax.specs.declared.tree.ExpForm.TheVariants as e
-use Rattle.sml_syntax.specs.Nodes.{exp_at, number_fn, numbers, nested}
+use Rattle.grammar_rules.specs.Nodes.{exp_at, number_fn, numbers, nested}
 
 abbrev name_exp : Span → ℕ → Exp
 name_exp span number = exp_at span (e.Name (decimal number))

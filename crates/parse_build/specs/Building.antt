@@ -14,7 +14,7 @@ use Rattle.sml_syntax.specs.declared.tree.DecForm.{DecForm}
 use Rattle.sml_syntax.specs.declared.tree.DecForm.TheVariants as df
 use Rattle.sml_syntax.specs.declared.tree.Piece.TheVariants as piece
 use Rattle.sml_syntax.specs.Layers.{form_of_pat, PatLayer}
-use Rattle.sml_syntax.specs.Nodes.{span_of, exp_at, pat_at, ty_at, dec_at, rule_of, infix_exp, cons_pat, it_dec, curried}
+use Rattle.grammar_rules.specs.Nodes.{span_of, exp_at, pat_at, ty_at, dec_at, rule_of, infix_exp, cons_pat, it_dec, curried}
 use Rattle.sml_syntax.specs.declared.tree.PatForm.TheOpen.{PatForm-F}
 use Rattle.sml_grammar.specs.declared.act.Act.{Act}
 use Rattle.sml_grammar.specs.declared.act.Act.TheVariants as a

@@ -1,7 +1,7 @@
 // The derived form of a function of several patterns.
 ghost use Rattle.std.specs.Prelude.{◌≡◌, ◌-◌, IfOk};
 ghost use Rattle.std.specs.Fmt.{decimal};
-ghost use Rattle.sml_syntax.specs.Nodes.{number_rule, numbers, nested, curried};
+ghost use Rattle.grammar_rules.specs.Nodes.{number_rule, numbers, nested, curried};
 
 use sml_syntax::{Boxed, Exp, ExpForm, Listed, NoMemory, Pat, PatForm, Rule, Span, Text};
 use std::alloc::Global;
@@ -67,7 +67,7 @@ fn nested(alloc: Global, span: Span, count: u64, body: Exp) -> Result<Exp, NoMem
 }
 
 /// The rule of a function of several patterns with these clauses.
-#[tactic(auto, unfolding(sml_syntax::specs::Nodes::curried))]
+#[tactic(auto, unfolding(grammar_rules::specs::Nodes::curried))]
 pub fn curried(alloc: Global, span: Span, count: u64, rules: Listed<Rule>) -> Result<Rule, NoMemory>
     ensures { IfOk result (λ rule. rule ≡ curried span count rules) }
 {

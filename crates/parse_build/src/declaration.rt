@@ -1,5 +1,5 @@
 // Acts on declarations and their parts.
-ghost use Rattle.std.specs.Prelude.{◌≡◌, OnOk};
+ghost use Rattle.std.specs.Prelude.{◌≡◌, ◌++◌, ◌∷◌, [], IfOk, OnOk};
 ghost use Rattle.parse_build.specs.Building.{apply_dec};
 ghost use Rattle.sml_grammar.specs.declared.act.DecAct.{DecAct};
 
@@ -204,6 +204,15 @@ fn dec_add_con(values: &mut Values, to: u64) -> Result<(), NoMemory>
     values.push(Val::Def(DefVal::Cons(Listed::of(all))))
 }
 
+// A list with one more behind its items.
+fn with_one<T: Drop>(items: Listed<T>, item: T) -> Result<Listed<T>, NoMemory>
+    ensures { IfOk result (λ all. all ≡ items ++ item ∷ []) }
+{
+    let mut all = items.into_vec();
+    all.push(item)?;
+    Ok(Listed::of(all))
+}
+
 #[tactic(auto, unfolding(crate::specs::Building::apply_dec))]
 fn dec_add_data(values: &mut Values, to: u64) -> Result<(), NoMemory>
     ensures { OnOk result (values.new ≡ apply_dec DecAct.AddData to values.old) }
@@ -217,9 +226,8 @@ fn dec_add_data(values: &mut Values, to: u64) -> Result<(), NoMemory>
     let Some(datas) = values.take_datas() else {
         return Ok(());
     };
-    let mut all = datas.into_vec();
-    all.push((names, name, cons))?;
-    values.push(Val::Def(DefVal::Datas(Listed::of(all))))
+    let all = with_one(datas, (names, name, cons))?;
+    values.push(Val::Def(DefVal::Datas(all)))
 }
 
 #[tactic(auto, unfolding(crate::specs::Building::apply_dec))]

@@ -2,7 +2,7 @@
 ghost use Rattle.std.specs.Prelude.{◌≡◌, IfOk, OnOk};
 ghost use Rattle.parse_build.specs.Building.{apply_exp};
 ghost use Rattle.sml_grammar.specs.declared.act.ExpAct.{ExpAct};
-ghost use Rattle.sml_syntax.specs.Nodes.{infix_exp};
+ghost use Rattle.grammar_rules.specs.Nodes.{infix_exp};
 ghost use Rattle.sml_syntax.specs.declared.tree.ExpForm.{ExpForm};
 
 use parse_values::{ExpVal, Val, Values};

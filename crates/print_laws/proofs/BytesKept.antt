@@ -6,7 +6,8 @@ use Rattle.std.specs.List.{list_all}
 use Rattle.sml_syntax.specs.declared.token.TokenForm.{TokenForm}
 use Rattle.sml_syntax.specs.declared.token.TokenForm.TheVariants as f
 use Rattle.sml_syntax.specs.declared.token.Lack.TheVariants as lack
-use Rattle.sml_syntax.specs.Spelling.{Reading, Good, Refused, Unsupported, BadByte, WideNumber, Piece, Blank, Is, TextByte, is, only, is_nil, is_name_byte, is_letter, is_digit, is_symbol_byte, is_plain, WordKind, Plain, Reserved, Lacks, word_kind, symbol_kind, alone, names, next_word, named, symbols, decimal_from, integer, numbers, number_lack, is_real, is_word, is_zero, is_hexadecimal_form, Literal, TextOf, Char, CharOf, with_byte, takes, is_fit, unfit, closed, literal, escape, second_digit, third_digit, is_short_escape, short_escape, Class, Blanks, Letter, Digit, Tilde, Hash, Symbol, Quote, Prime, Open, Close, Mark, Backquote, Brace, Dot, Other, class, mark_class, expression, expression_by, comment, shuts, before_behind, depth_behind, Before, behind_hash, behind_tilde, behind_dot, close_form}
+use Rattle.grammar_rules.specs.Spelling.{Reading, Good, Refused, Unsupported, BadByte, WideNumber, Piece, Blank, Is, TextByte, is, only, is_nil, is_name_byte, is_symbol_byte, is_plain, WordKind, Plain, Reserved, Lacks, word_kind, symbol_kind, alone, names, next_word, named, symbols, decimal_from, integer, numbers, number_lack, is_real, is_word, is_zero, is_hexadecimal_form, Literal, TextOf, Char, CharOf, with_byte, takes, is_fit, unfit, closed, literal, escape, second_digit, third_digit, is_short_escape, short_escape, Class, Blanks, Letter, Digit, Tilde, Hash, Symbol, Quote, Prime, Open, Close, Mark, Backquote, Brace, Dot, Other, class, mark_class, expression, expression_by, comment, shuts, before_behind, depth_behind, Before, behind_hash, behind_tilde, behind_dot, close_form}
+use Rattle.sml_syntax.specs.ByteClasses.{is_letter, is_digit}
 use Rattle.print_laws.specs.Printing.{has_dot, begins_number}
 use Rattle.print_laws.specs.Bytes.{InRange, Kept}
 use Rattle.print_laws.proofs.BytesNames.{Said, said_name, said_long, said_mark, names_said, alone_said}

@@ -5,8 +5,9 @@ use Rattle.std.specs.List.{list_all}
 use Rattle.sml_syntax.specs.declared.token.Token.{Token}
 use Rattle.sml_syntax.specs.declared.token.TokenForm.{TokenForm}
 use Rattle.sml_syntax.specs.declared.token.TokenForm.TheVariants as f
-use Rattle.sml_syntax.specs.Spelling.{Reading, Good, Blank, TextByte, is, only, is_nil, is_letter, is_name_byte, class, mark_class, expression, quoted, behind_caret}
-use Rattle.sml_syntax.specs.Tokens.{Mode, Program, QuotedText, Antiquoted, reading, Longest, around_quotation, behind_token, token, with_text, Lexes, piece}
+use Rattle.grammar_rules.specs.Spelling.{Reading, Good, Blank, TextByte, is, only, is_nil, is_name_byte, class, mark_class, expression, quoted, behind_caret}
+use Rattle.sml_syntax.specs.ByteClasses.{is_letter}
+use Rattle.grammar_rules.specs.Tokens.{Mode, Program, QuotedText, Antiquoted, reading, Longest, around_quotation, behind_token, token, with_text, Lexes, piece}
 use Rattle.print_laws.specs.Spelled.{spelling, gap, spelled_token, spelled}
 use Rattle.print_laws.specs.Bytes.{Before, Fresh, Behind_text, Behind_name, Shape, Outside, Quoted, Inside, mode_at, shape_around, ends_at, parens_after, Stands, is_calm, is_text, MayFollow, is_anti, Fits, fits_none, fits_outside, fits_inside, fits_quote, fits_inner_quote, fits_anti_to, fits_text, fits_anti, fits_anti_from, fits_quote_to, placed}
 use Rattle.print_laws.proofs.BytesStops.{blank_stops, all_stops}

@@ -4,9 +4,9 @@ use Rattle.std.specs.Prelude.{flat_map}
 use Rattle.sml_syntax.specs.declared.token.Token.{Token}
 use Rattle.sml_syntax.specs.declared.token.TokenForm.{TokenForm}
 use Rattle.sml_syntax.specs.declared.tree.Dec.{Dec}
-use Rattle.sml_syntax.specs.Programs.{Each}
-use Rattle.sml_syntax.specs.Spelling.{Good, Blank, only, is_nil, class, expression}
-use Rattle.sml_syntax.specs.Tokens.{Program, Lexes, ends, piece}
+use Rattle.grammar_rules.specs.Programs.{Each}
+use Rattle.grammar_rules.specs.Spelling.{Good, Blank, only, is_nil, class, expression}
+use Rattle.grammar_rules.specs.Tokens.{Program, Lexes, ends, piece}
 use Rattle.print_laws.specs.Spelled.{spelled, spelled_token}
 use Rattle.print_laws.specs.Printing.{dec_forms, printed}
 use Rattle.print_laws.specs.Bytes.{Fits, Outside, placed, placed_lines, PrintedTokens, ScriptTokens}

@@ -1,7 +1,7 @@
 -- The marks and words that are printed are read as marks.
 use Rattle.std.specs.Prelude.{refl, Bool, false, codes}
 use Rattle.sml_syntax.specs.declared.token.TokenForm.TheVariants as f
-use Rattle.sml_syntax.specs.Spelling.{class, mark_class, names, word_kind, symbol_kind}
+use Rattle.grammar_rules.specs.Spelling.{class, mark_class, names, word_kind, symbol_kind}
 use Rattle.print_laws.specs.Spelled.{spelling, gap}
 use Rattle.print_laws.specs.Bytes.{Stands}
 

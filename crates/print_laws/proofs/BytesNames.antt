@@ -3,7 +3,8 @@ use Rattle.std.proofs.Common.{◌≡◌, ◌⊎◌, inl, inr, ℕ, ◌+◌, List
 use Rattle.std.proofs.lemmas.Bool.Decides.{nat_tests}
 use Rattle.sml_syntax.specs.declared.token.TokenForm.{TokenForm}
 use Rattle.sml_syntax.specs.declared.token.TokenForm.TheVariants as f
-use Rattle.sml_syntax.specs.Spelling.{Reading, Good, Refused, Piece, BadByte, is, is_name_byte, is_letter, is_symbol_byte, is_plain, WordKind, Plain, Reserved, Lacks, word_kind, alone, names, next_word, named}
+use Rattle.grammar_rules.specs.Spelling.{Reading, Good, Refused, Piece, BadByte, is, is_name_byte, is_symbol_byte, is_plain, WordKind, Plain, Reserved, Lacks, word_kind, alone, names, next_word, named}
+use Rattle.sml_syntax.specs.ByteClasses.{is_letter}
 use Rattle.print_laws.specs.Printing.{has_dot}
 
 -- what bytes are read as, wherever they stand

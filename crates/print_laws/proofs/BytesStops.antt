@@ -4,7 +4,8 @@ use Rattle.std.specs.List.{list_all}
 use Rattle.sml_syntax.specs.declared.token.TokenForm.{TokenForm}
 use Rattle.sml_syntax.specs.declared.token.TokenForm.TheVariants as form
 use Rattle.sml_syntax.specs.declared.token.Lack.TheVariants as lack
-use Rattle.sml_syntax.specs.Spelling.{Reading, Good, Refused, Unsupported, Refusal, BadByte, Piece, Blank, is, only, is_nil, is_name_byte, is_letter, is_digit, is_symbol_byte, is_plain, names, next_word, numbers, number_lack, is_real, is_word, is_zero, is_hexadecimal_form, Literal, literal, escape, second_digit, third_digit, with_byte, takes, is_fit, unfit, closed, short_escape, is_short_escape, Before, comment, shuts, before_behind, depth_behind, Class, Blanks, Letter, Digit, Tilde, Hash, Symbol, Quote, Prime, Open, Close, Mark, Backquote, Brace, Dot, Other, class, expression, expression_by, symbols, behind_hash, behind_tilde, behind_dot, alone, symbol_kind, close_form, TextOf, Char}
+use Rattle.grammar_rules.specs.Spelling.{Reading, Good, Refused, Unsupported, Refusal, BadByte, Piece, Blank, is, only, is_nil, is_name_byte, is_symbol_byte, is_plain, names, next_word, numbers, number_lack, is_real, is_word, is_zero, is_hexadecimal_form, Literal, literal, escape, second_digit, third_digit, with_byte, takes, is_fit, unfit, closed, short_escape, is_short_escape, Before, comment, shuts, before_behind, depth_behind, Class, Blanks, Letter, Digit, Tilde, Hash, Symbol, Quote, Prime, Open, Close, Mark, Backquote, Brace, Dot, Other, class, expression, expression_by, symbols, behind_hash, behind_tilde, behind_dot, alone, symbol_kind, close_form, TextOf, Char}
+use Rattle.sml_syntax.specs.ByteClasses.{is_letter, is_digit}
 
 pub cond_both : (t : Bool) {x y x2 y2 : Option Reading} {r : Reading} → (x ≡ Some r → x2 ≡ None) → (y ≡ Some r → y2 ≡ None) → cond t x y ≡ Some r → cond t x2 y2 ≡ None
 cond_both true f g h = f h

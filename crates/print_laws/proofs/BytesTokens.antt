@@ -5,9 +5,10 @@ use Rattle.std.specs.List.{list_all}
 use Rattle.sml_syntax.specs.declared.token.Token.{Token}
 use Rattle.sml_syntax.specs.declared.token.TokenForm.{TokenForm}
 use Rattle.sml_syntax.specs.declared.token.TokenForm.TheVariants as f
-use Rattle.sml_syntax.specs.Spelling.{Reading, Good, Piece, Blank, Is, TextByte, is, only, is_nil, is_name_byte, is_letter, quoted, behind_caret}
-use Rattle.sml_syntax.specs.Tokens.{Mode, Program, QuotedText, Antiquoted, Longest, behind, token, text_at, with_text, with_piece, Lexes, ends, piece, HasTokens}
-use Rattle.sml_syntax.specs.Programs.{Each}
+use Rattle.grammar_rules.specs.Spelling.{Reading, Good, Piece, Blank, Is, TextByte, is, only, is_nil, is_name_byte, quoted, behind_caret}
+use Rattle.sml_syntax.specs.ByteClasses.{is_letter}
+use Rattle.grammar_rules.specs.Tokens.{Mode, Program, QuotedText, Antiquoted, Longest, behind, token, text_at, with_text, with_piece, Lexes, ends, piece, HasTokens}
+use Rattle.grammar_rules.specs.Programs.{Each}
 use Rattle.print_laws.specs.ReadBack.{IsFine}
 use Rattle.print_laws.specs.Bytes.{Kept, KeptName, PartsFrom, Parts, AllKept, is_text, is_calm, is_anti}
 use Rattle.print_laws.proofs.BytesKept.{KeptWord, KeptPiece, piece_kept}

@@ -7,7 +7,8 @@ use Rattle.std.proofs.lemmas.Fmt.{decimal_by_steps}
 use Rattle.std.specs.List.{list_all}
 use Rattle.sml_syntax.specs.declared.token.Lack.TheVariants as lack
 use Rattle.sml_syntax.specs.declared.token.TokenForm.TheVariants as f
-use Rattle.sml_syntax.specs.Spelling.{Refused, WideNumber, BadByte, Unsupported, is, only, is_nil, is_digit, is_letter, is_blank, class, mark_class, Digit, expression, expression_by, decimal_from, integer, numbers, number_lack, symbols, Literal, TextOf, Char, CharOf, with_byte, takes, is_fit, unfit, closed, literal, escape, second_digit, third_digit, is_short_escape, short_escape}
+use Rattle.grammar_rules.specs.Spelling.{Refused, WideNumber, BadByte, Unsupported, is, only, is_nil, is_blank, class, mark_class, Digit, expression, expression_by, decimal_from, integer, numbers, number_lack, symbols, Literal, TextOf, Char, CharOf, with_byte, takes, is_fit, unfit, closed, literal, escape, second_digit, third_digit, is_short_escape, short_escape}
+use Rattle.sml_syntax.specs.ByteClasses.{is_digit, is_letter}
 use Rattle.print_laws.specs.Spelled.{spelling, gap, number_escape, text_byte, char_byte}
 use Rattle.print_laws.specs.Bytes.{Stands, InRange}
 

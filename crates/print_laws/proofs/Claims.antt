@@ -11,10 +11,10 @@ use Rattle.sml_syntax.specs.declared.tree.ExpForm.TheVariants as e
 use Rattle.sml_syntax.specs.declared.tree.Pat.{Pat}
 use Rattle.sml_syntax.specs.declared.tree.PatForm.TheVariants as p
 use Rattle.sml_syntax.specs.declared.tree.Ty.{Ty}
-use Rattle.sml_syntax.specs.InfixNames.{infix_level}
-use Rattle.sml_syntax.specs.Programs.{Each}
-use Rattle.sml_syntax.specs.Nodes.{exp_at, pat_at}
-use Rattle.sml_syntax.specs.Grammar.{Tree, Phrase, Is, exp_tree, pat_tree, ty_tree, name_tree, head, atx, app, inf, tyx, andc, orc, expr, antiquoted, pat, cpat, apat, atpat, ty, tupty, conty, IsMark, IsInfix, IsTypeName, short, long, head_name, head_op}
+use Rattle.grammar_rules.specs.InfixNames.{infix_level}
+use Rattle.grammar_rules.specs.Programs.{Each}
+use Rattle.grammar_rules.specs.Nodes.{exp_at, pat_at}
+use Rattle.grammar_rules.specs.Grammar.{Tree, Phrase, Is, exp_tree, pat_tree, ty_tree, name_tree, head, atx, app, inf, tyx, andc, orc, expr, antiquoted, pat, cpat, apat, atpat, ty, tupty, conty, IsMark, IsInfix, IsTypeName, short, long, head_name, head_op}
 use Rattle.print_laws.specs.SameTree.{Same}
 use Rattle.print_laws.specs.Printing.{Forms, Part, Ink, parted, alternatives_from, alternatives, has_dot, with_op, head_forms, unless_infix, type_name, ty_part, PatInk, pat_ink, exp_ink, anti_forms}
 use Rattle.print_laws.proofs.Bearing.{Bears, bears_none, At, one, word, both, bin}

@@ -11,9 +11,9 @@ use Rattle.sml_syntax.specs.declared.tree.Exp.{Exp}
 use Rattle.sml_syntax.specs.declared.tree.ExpForm.TheVariants as e
 use Rattle.sml_syntax.specs.declared.tree.Dec.{Dec}
 use Rattle.sml_syntax.specs.declared.tree.DecForm.TheVariants as d
-use Rattle.sml_syntax.specs.Programs.{Each}
-use Rattle.sml_syntax.specs.Nodes.{exp_at, dec_at, span_of, extent}
-use Rattle.sml_syntax.specs.Grammar.{Is, exp_tree, exps_tree, pat_tree, text_tree, pieces_tree, dec_tree, decs_tree, binds_tree, pat, exps, antiquoted, quoted, text_part, dec, decs, binds, atx_quote, atx_let, quoted_last, quoted_more, no_text, some_text, decs_none, decs_more, dec_val, dec_local, binds_one, binds_more}
+use Rattle.grammar_rules.specs.Programs.{Each}
+use Rattle.grammar_rules.specs.Nodes.{exp_at, dec_at, span_of, extent}
+use Rattle.grammar_rules.specs.Grammar.{Is, exp_tree, exps_tree, pat_tree, text_tree, pieces_tree, dec_tree, decs_tree, binds_tree, pat, exps, antiquoted, quoted, text_part, dec, decs, binds, atx_quote, atx_let, quoted_last, quoted_more, no_text, some_text, decs_none, decs_more, dec_val, dec_local, binds_one, binds_more}
 use Rattle.print_laws.specs.SameTree.{same_quote, same_let, plain_piece, anti_piece, no_pieces, no_decs, more_decs, same_val, same_local, no_binds, more_binds}
 use Rattle.print_laws.specs.Printing.{parted, pat_forms, exps_forms, exp_forms, exp_ink, piece_forms, plain_forms, dec_forms, bind_forms}
 use Rattle.print_laws.proofs.Lists.{parted_map, flat_map_map}

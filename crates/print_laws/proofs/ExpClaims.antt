@@ -13,10 +13,10 @@ use Rattle.sml_syntax.specs.declared.tree.Pat.{Pat}
 use Rattle.sml_syntax.specs.declared.tree.Rule.{Rule}
 use Rattle.sml_syntax.specs.declared.tree.Exp.{Exp}
 use Rattle.sml_syntax.specs.declared.tree.ExpForm.TheVariants as e
-use Rattle.sml_syntax.specs.InfixNames.{infix_level, symbol_level, word_level, or_else, groups_right}
-use Rattle.sml_syntax.specs.Programs.{Each}
-use Rattle.sml_syntax.specs.Nodes.{exp_at, rule_of, span_of, extent, infix_exp}
-use Rattle.sml_syntax.specs.Grammar.{Is, exp_tree, exps_tree, rule_tree, rules_tree, pat_tree, ty_tree, ty, pat, atx, app, inf, tyx, andc, orc, expr, exps, antiquoted, match_of, rule_of_match, short, long, IsInfix, by_name, by_equals, atx_int, atx_char, atx_str, atx_name, atx_op, atx_op_equals, atx_unit, atx_paren, atx_tuple, atx_seq, atx_no_list, atx_list, anti_name, anti_exp, exps_one, exps_more, app_one, app_to, inf_top, inf_up, inf_left, inf_right, tyx_one, tyx_typed, andc_one, andc_both, orc_one, orc_either, exp_tail, exp_orc, exp_handle, tail_raise, tail_if, tail_case, tail_fn, match_last, match_more, one_rule}
+use Rattle.grammar_rules.specs.InfixNames.{infix_level, symbol_level, word_level, or_else, groups_right}
+use Rattle.grammar_rules.specs.Programs.{Each}
+use Rattle.grammar_rules.specs.Nodes.{exp_at, rule_of, span_of, extent, infix_exp}
+use Rattle.grammar_rules.specs.Grammar.{Is, exp_tree, exps_tree, rule_tree, rules_tree, pat_tree, ty_tree, ty, pat, atx, app, inf, tyx, andc, orc, expr, exps, antiquoted, match_of, rule_of_match, short, long, IsInfix, by_name, by_equals, atx_int, atx_char, atx_str, atx_name, atx_op, atx_op_equals, atx_unit, atx_paren, atx_tuple, atx_seq, atx_no_list, atx_list, anti_name, anti_exp, exps_one, exps_more, app_one, app_to, inf_top, inf_up, inf_left, inf_right, tyx_one, tyx_typed, andc_one, andc_both, orc_one, orc_either, exp_tail, exp_orc, exp_handle, tail_raise, tail_if, tail_case, tail_fn, match_last, match_more, one_rule}
 use Rattle.print_laws.specs.SameTree.{same_int, same_char, same_str, same_name, same_unit, same_tuple, same_list, same_seq, same_app, same_fn, same_case, same_handle, same_raise, same_if, same_both, same_either, same_typed, no_exps, more_exps, same_rule, no_rules, more_rules}
 use Rattle.print_laws.specs.Printing.{Forms, Part, Ink, RuleInk, closed, in_parens, has_dot, with_op, head_forms, name_forms, infix_word, infix_by, infix_of, is_lone, ty_forms, pat_forms, put, barred, body_forms, left_place, right_place, app_part, exps_forms, exp_part, exp_forms, exp_ink, rule_ink, rule_forms, match_forms, anti_forms}
 use Rattle.print_laws.proofs.Lists.{parted_map, alternatives_map}

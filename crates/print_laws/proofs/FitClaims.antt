@@ -17,9 +17,9 @@ use Rattle.sml_syntax.specs.declared.tree.Exp.{Exp}
 use Rattle.sml_syntax.specs.declared.tree.ExpForm.TheVariants as e
 use Rattle.sml_syntax.specs.declared.tree.Dec.{Dec}
 use Rattle.sml_syntax.specs.declared.tree.DecForm.TheVariants as d
-use Rattle.sml_syntax.specs.Programs.{Each}
+use Rattle.grammar_rules.specs.Programs.{Each}
 use Rattle.sml_syntax.specs.Layers.{form_of_pat}
-use Rattle.sml_syntax.specs.Nodes.{exp_at, pat_at, ty_at, dec_at, rule_of, clause_pat, curried, function_rules, it_dec}
+use Rattle.grammar_rules.specs.Nodes.{exp_at, pat_at, ty_at, dec_at, rule_of, clause_pat, curried, function_rules, it_dec}
 use Rattle.print_laws.specs.Bytes.{Before, Fresh, Behind_text, Behind_name, Shape, Outside, Quoted, Inside, shape_around, Stands, MayFollow, Fits, fits_quote, fits_inner_quote, fits_anti_to, fits_text, fits_anti, fits_anti_from, fits_quote_to}
 use Rattle.print_laws.specs.Printing.{Forms, Part, PatInk, Ink, RuleInk, closed, atomic, in_parens, parted, alternatives, head_forms, name_forms, infix_of, is_lone, type_name, con_forms, starred, ty_part, ty_forms, put_ty, is_cons, applied_pat, con_pat, pats_forms, pat_ink, pat_part, pat_forms, put_pat, put, barred, body_forms, left_place, right_place, app_part, exp_part, exp_forms, exp_ink, rule_ink, rule_forms, match_forms, exps_forms, anti_forms, plain_forms, piece_forms, dec_forms, clause_of, one_clause, several_clause, patterns_in, is_number, inner_clauses, function_forms, bind_forms, vars_forms, abbrev_forms, argument_forms, con_def_forms, data_forms}
 use Rattle.print_laws.specs.ReadBack.{IsFine}

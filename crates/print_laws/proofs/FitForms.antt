@@ -5,10 +5,10 @@ use Rattle.std.specs.Str.{bytes_eq}
 use Rattle.sml_syntax.specs.declared.token.Token.{Token}
 use Rattle.sml_syntax.specs.declared.token.TokenForm.{TokenForm}
 use Rattle.sml_syntax.specs.declared.token.TokenForm.TheVariants as f
-use Rattle.sml_syntax.specs.InfixNames.{infix_level}
-use Rattle.sml_syntax.specs.Programs.{Each}
-use Rattle.sml_syntax.specs.Grammar.{IsTypeName, short, long}
-use Rattle.sml_syntax.specs.Spelling.{class, names, word_kind}
+use Rattle.grammar_rules.specs.InfixNames.{infix_level}
+use Rattle.grammar_rules.specs.Programs.{Each}
+use Rattle.grammar_rules.specs.Grammar.{IsTypeName, short, long}
+use Rattle.grammar_rules.specs.Spelling.{class, names, word_kind}
 use Rattle.print_laws.specs.Spelled.{spelling, gap}
 use Rattle.print_laws.specs.Bytes.{Shape, Outside, Quoted, Inside, ends_at, parens_after, Stands, Fits, fits_outside, fits_inside}
 use Rattle.print_laws.specs.Printing.{Forms, in_parens, behind_mark, parted, alternatives_from, alternatives, has_dot, with_op, head_forms, name_forms, infix_word, infix_by, infix_of, unless_infix, type_name}

@@ -7,8 +7,9 @@ use Rattle.sml_syntax.specs.declared.token.Token.{Token}
 use Rattle.sml_syntax.specs.declared.token.TokenForm.{TokenForm}
 use Rattle.sml_syntax.specs.declared.token.TokenForm.TheVariants as f
 use Rattle.sml_syntax.specs.declared.token.Lack.TheVariants as lack
-use Rattle.sml_syntax.specs.Spelling.{Reading, Good, Refused, Is, is, is_letter, is_digit, is_blank, is_name_byte, Letter, class, Plain, Reserved, Lacks, word_kind, alone, named, names, next_word, is_plain, is_among, reserved_words, module_words, layered_words, abstype_words, fixity_words, while_words, expression, expression_by}
-use Rattle.sml_syntax.specs.Programs.{Each}
+use Rattle.grammar_rules.specs.Spelling.{Reading, Good, Refused, Is, is, is_blank, is_name_byte, Letter, class, Plain, Reserved, Lacks, word_kind, alone, named, names, next_word, is_plain, is_among, reserved_words, module_words, layered_words, abstype_words, fixity_words, while_words, expression, expression_by}
+use Rattle.sml_syntax.specs.ByteClasses.{is_letter, is_digit}
+use Rattle.grammar_rules.specs.Programs.{Each}
 use Rattle.print_laws.specs.Spelled.{spelling, gap}
 use Rattle.print_laws.specs.Printing.{has_dot, is_lone, lacking_words, dec_forms}
 use Rattle.print_laws.specs.ReadBack.{ReadsBack}

@@ -13,12 +13,12 @@ use Rattle.sml_syntax.specs.declared.tree.Dec.{Dec}
 use Rattle.sml_syntax.specs.declared.tree.Program.{Program}
 use Rattle.sml_syntax.specs.declared.tree.Exp.{Exp}
 use Rattle.sml_syntax.specs.declared.tree.ExpForm.TheVariants as e
-use Rattle.sml_syntax.specs.Programs.{IsProgram, Each}
+use Rattle.grammar_rules.specs.Programs.{IsProgram, Each}
 use Rattle.sml_syntax.specs.Layers.{form_of_pat}
 use Rattle.sml_syntax.specs.NestedTypes.{Found, nested_in_bindings}
-use Rattle.sml_syntax.specs.Nodes.{exp_at, pat_at, rule_of, span_of, extent, last_of, name_place, clause_pat}
-use Rattle.sml_syntax.specs.Grammar.{IsTypeName, short, long, IsInfix, by_name, by_equals, IsTyVar, Tree, Phrase, Is, exp_tree, exps_tree, rule_tree, rules_tree, text_tree, pieces_tree, name_tree, pat_tree, pats_tree, ty_tree, tys_tree, vars_tree, dec_tree, decs_tree, binds_tree, recs_tree, abbrevs_tree, cons_tree, datas_tree, antiquoted, atpats, clause, clauses, local_lack}
-use Rattle.sml_syntax.specs.Grammar.{atx_int, atx_char, atx_str, atx_name, atx_op, atx_op_equals, atx_quote, atx_unit, atx_paren, atx_tuple, atx_seq, atx_no_list, atx_list, atx_let, quoted_last, quoted_more, no_text, some_text, anti_name, anti_exp, exps_one, exps_more, app_one, app_to, inf_top, inf_up, inf_left, inf_right, tyx_one, tyx_typed, andc_one, andc_both, ande_tail, ande_more, orc_one, orc_either, ore_one, ore_tail, ore_more, exp_tail, exp_orc, exp_ore, exp_handle, tail_raise, tail_if, tail_case, tail_fn, match_last, match_more, one_rule, head_name, head_op, atpat_any, atpat_int, atpat_char, atpat_str, atpat_name, atpat_unit, atpat_paren, atpat_tuple, atpat_no_list, atpat_list, pats_one, pats_more, atpats_none, atpats_more, apat_one, apat_con, cpat_one, cpat_cons, pat_one, pat_typed, conty_name, conty_var, conty_paren, conty_one, conty_several, tys_one, tys_more, stars_one, stars_more, tupty_one, tupty_several, ty_one, ty_arrow, vars_none, vars_one, vars_several, more_vars_one, more_vars_more, dec_val, dec_rec, dec_fun, dec_type, dec_datatype, dec_exception, dec_local, dec_replication, decs_none, decs_more, decs_parted, binds_one, binds_more, recs_one, recs_more, funs_one, funs_more, clauses_last, clauses_more, clause_plain, clause_typed, clause_infix, clause_infix_typed, abbrevs_one, abbrevs_more, datas_one, datas_more, cons_one, cons_of, cons_more, cons_of_more, exns_one, exns_of, exns_same, exns_more, exns_of_more, exns_same_more, items_none, items_dec, items_exp, items_exp_more, items_after_none, items_after_dec, items_after_semicolon}
+use Rattle.grammar_rules.specs.Nodes.{exp_at, pat_at, rule_of, span_of, extent, last_of, name_place, clause_pat}
+use Rattle.grammar_rules.specs.Grammar.{IsTypeName, short, long, IsInfix, by_name, by_equals, IsTyVar, Tree, Phrase, Is, exp_tree, exps_tree, rule_tree, rules_tree, text_tree, pieces_tree, name_tree, pat_tree, pats_tree, ty_tree, tys_tree, vars_tree, dec_tree, decs_tree, binds_tree, recs_tree, abbrevs_tree, cons_tree, datas_tree, antiquoted, atpats, clause, clauses, local_lack}
+use Rattle.grammar_rules.specs.Grammar.{atx_int, atx_char, atx_str, atx_name, atx_op, atx_op_equals, atx_quote, atx_unit, atx_paren, atx_tuple, atx_seq, atx_no_list, atx_list, atx_let, quoted_last, quoted_more, no_text, some_text, anti_name, anti_exp, exps_one, exps_more, app_one, app_to, inf_top, inf_up, inf_left, inf_right, tyx_one, tyx_typed, andc_one, andc_both, ande_tail, ande_more, orc_one, orc_either, ore_one, ore_tail, ore_more, exp_tail, exp_orc, exp_ore, exp_handle, tail_raise, tail_if, tail_case, tail_fn, match_last, match_more, one_rule, head_name, head_op, atpat_any, atpat_int, atpat_char, atpat_str, atpat_name, atpat_unit, atpat_paren, atpat_tuple, atpat_no_list, atpat_list, pats_one, pats_more, atpats_none, atpats_more, apat_one, apat_con, cpat_one, cpat_cons, pat_one, pat_typed, conty_name, conty_var, conty_paren, conty_one, conty_several, tys_one, tys_more, stars_one, stars_more, tupty_one, tupty_several, ty_one, ty_arrow, vars_none, vars_one, vars_several, more_vars_one, more_vars_more, dec_val, dec_rec, dec_fun, dec_type, dec_datatype, dec_exception, dec_local, dec_replication, decs_none, decs_more, decs_parted, binds_one, binds_more, recs_one, recs_more, funs_one, funs_more, clauses_last, clauses_more, clause_plain, clause_typed, clause_infix, clause_infix_typed, abbrevs_one, abbrevs_more, datas_one, datas_more, cons_one, cons_of, cons_more, cons_of_more, exns_one, exns_of, exns_same, exns_more, exns_of_more, exns_same_more, items_none, items_dec, items_exp, items_exp_more, items_after_none, items_after_dec, items_after_semicolon}
 use Rattle.print_laws.specs.Printing.{RuleInk, head_forms, begins_number, is_number, is_lone, rule_ink, dec_forms, abbrev_forms, con_def_forms, data_forms}
 use Rattle.print_laws.specs.Bytes.{Outside, Fits, fits_none}
 use Rattle.print_laws.specs.ReadBack.{IsFine}

@@ -12,10 +12,10 @@ use Rattle.sml_syntax.specs.declared.tree.Rule.{Rule}
 use Rattle.sml_syntax.specs.declared.tree.Exp.{Exp}
 use Rattle.sml_syntax.specs.declared.tree.ExpForm.TheVariants as e
 use Rattle.sml_syntax.specs.declared.tree.DecForm.TheVariants as d
-use Rattle.sml_syntax.specs.Programs.{Each}
+use Rattle.grammar_rules.specs.Programs.{Each}
 use Rattle.sml_syntax.specs.Layers.{form_of_pat}
-use Rattle.sml_syntax.specs.Nodes.{exp_at, pat_at, dec_at, rule_of, extent, clause_pat, numbers, nested, curried, function_rules, number_rule}
-use Rattle.sml_syntax.specs.Grammar.{Is, exp_tree, exps_tree, rule_tree, rules_tree, recs_tree, pat_tree, pats_tree, dec_tree, atpat, atpats, clause, clauses, funs, dec, atpats_none, atpats_more, clause_plain, clauses_last, clauses_more, funs_one, funs_more, dec_fun}
+use Rattle.grammar_rules.specs.Nodes.{exp_at, pat_at, dec_at, rule_of, extent, clause_pat, numbers, nested, curried, function_rules, number_rule}
+use Rattle.grammar_rules.specs.Grammar.{Is, exp_tree, exps_tree, rule_tree, rules_tree, recs_tree, pat_tree, pats_tree, dec_tree, atpat, atpats, clause, clauses, funs, dec, atpats_none, atpats_more, clause_plain, clauses_last, clauses_more, funs_one, funs_more, dec_fun}
 use Rattle.print_laws.specs.SameTree.{Same, same_name, same_tuple, same_fn, same_case, no_exps, more_exps, same_rule, no_rules, more_rules, same_pat_name, same_pat_tuple, no_pats, more_pats, no_recs, more_recs, same_rec}
 use Rattle.print_laws.specs.Printing.{Forms, Ink, RuleInk, Clause, parted, alternatives, head_forms, put_pat, body_forms, exp_part, exp_ink, rule_ink, clause_of, one_clause, several_clause, patterns_in, is_number, begins_number, inner_clauses, function_forms}
 use Rattle.print_laws.proofs.Lists.{parted_map, alternatives_map}

@@ -20,9 +20,9 @@ use Rattle.sml_syntax.specs.declared.tree.PatForm.TheVariants as p
 use Rattle.sml_syntax.specs.declared.tree.TyForm.TheVariants as t
 use Rattle.sml_syntax.specs.Layers.{ExpLayer, DecLayer, PatLayer, form_of_exp, form_of_dec, form_of_pat}
 use Rattle.sml_syntax.specs.NestedTypes.{TyLayer, form_of_ty}
-use Rattle.sml_syntax.specs.Nodes.{exp_at, pat_at, ty_at, dec_at, rule_of}
-use Rattle.sml_syntax.specs.Programs.{Each, TyFits, TyFormFits, PatFits, PatFormFits, RuleFits, PieceFits, ArgumentFits, ExpFits, ExpFormFits, DecFits, DecFormFits}
-use Rattle.sml_syntax.specs.Grammar.{Tree, exp_tree, exps_tree, rule_tree, rules_tree, text_tree, pieces_tree, name_tree, pat_tree, pats_tree, ty_tree, tys_tree, vars_tree, dec_tree, decs_tree, binds_tree, recs_tree, abbrevs_tree, cons_tree, datas_tree}
+use Rattle.grammar_rules.specs.Nodes.{exp_at, pat_at, ty_at, dec_at, rule_of}
+use Rattle.grammar_rules.specs.Programs.{Each, TyFits, TyFormFits, PatFits, PatFormFits, RuleFits, PieceFits, ArgumentFits, ExpFits, ExpFormFits, DecFits, DecFormFits}
+use Rattle.grammar_rules.specs.Grammar.{Tree, exp_tree, exps_tree, rule_tree, rules_tree, text_tree, pieces_tree, name_tree, pat_tree, pats_tree, ty_tree, tys_tree, vars_tree, dec_tree, decs_tree, binds_tree, recs_tree, abbrevs_tree, cons_tree, datas_tree}
 use Rattle.print_laws.specs.SameTree.{Same, same_int, same_char, same_str, same_name, same_unit, same_tuple, same_list, same_seq, same_app, same_let, same_fn, same_case, same_handle, same_raise, same_if, same_both, same_either, same_quote, same_typed, no_exps, more_exps, same_rule, no_rules, more_rules, no_pieces, plain_piece, anti_piece, same_any, same_pat_int, same_pat_char, same_pat_str, same_pat_unit, same_pat_name, same_pat_tuple, same_pat_list, same_pat_con, same_pat_typed, no_pats, more_pats, same_var, same_con, same_ty_tuple, same_arrow, no_tys, more_tys, same_val, same_rec, same_abbrev, same_data, same_exn, same_local, no_decs, more_decs, no_binds, more_binds, no_recs, more_recs, no_abbrevs, more_abbrevs, no_cons, more_cons, more_cons_of, no_datas, more_datas}
 use Rattle.print_laws.specs.ReadBack.{SameHeights}
 use Rattle.print_laws.proofs.Made as patterns

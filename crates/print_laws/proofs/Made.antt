@@ -24,7 +24,7 @@ use Rattle.sml_syntax.specs.declared.tree.DecForm.TheVariants as d
 use Rattle.sml_syntax.specs.declared.tree.DecForm.TheOpen.{DecForm-F, ExpForm-F, Piece-F}
 use Rattle.sml_syntax.specs.declared.tree.DecForm.TheFolds.{fold-roll-Exp, fold-roll-ExpForm, fold-roll-Rule, fold-roll-Piece, fold-roll-Dec, fold-roll-DecForm}
 use Rattle.sml_syntax.specs.Layers.{form_of_pat}
-use Rattle.sml_syntax.specs.Nodes.{exp_at, pat_at, ty_at, dec_at, rule_of}
+use Rattle.grammar_rules.specs.Nodes.{exp_at, pat_at, ty_at, dec_at, rule_of}
 use Rattle.print_laws.specs.Printing.{Forms, Part, PatInk, Ink, RuleInk, ty_layer, ty_part, pat_layer, pat_ink, exp_layer, exp_ink, piece_layer, piece_forms, rule_layer, rule_ink, dec_layer, dec_forms}
 
 pub ink-Int : (s : Span) (n : ℤ) → exp_ink (exp_at s (e.Int n)) ≡ exp_layer (ExpForm-F.Int n)

@@ -12,8 +12,8 @@ use Rattle.sml_syntax.specs.declared.tree.TyForm.TheOpen.{TyForm-F}
 use Rattle.sml_syntax.specs.declared.tree.TyForm.TheVariants as t
 use Rattle.sml_syntax.specs.declared.tree.TyForm.TheViews.{out-roll-Ty, out-roll-TyForm}
 use Rattle.sml_syntax.specs.NestedTypes.{Found, Datatypes, form_of_ty, own_variables, is_variable, are_variables, nested_here, for_each, nested_in_form, nested_in_type, nested_in_constructors, nested_in_bindings}
-use Rattle.sml_syntax.specs.Nodes.{ty_at, span_of, extent}
-use Rattle.sml_syntax.specs.Grammar.{Is, ty_tree, tys_tree, cons_tree, datas_tree, conty, tupty, ty, stars, tys, cons, datas, conty_name, conty_var, conty_paren, conty_one, conty_several, tys_one, tys_more, stars_one, stars_more, tupty_one, tupty_several, ty_one, ty_arrow, cons_one, cons_of, cons_more, cons_of_more, datas_one, datas_more}
+use Rattle.grammar_rules.specs.Nodes.{ty_at, span_of, extent}
+use Rattle.grammar_rules.specs.Grammar.{Is, ty_tree, tys_tree, cons_tree, datas_tree, conty, tupty, ty, stars, tys, cons, datas, conty_name, conty_var, conty_paren, conty_one, conty_several, tys_one, tys_more, stars_one, stars_more, tupty_one, tupty_several, ty_one, ty_arrow, cons_one, cons_of, cons_more, cons_of_more, datas_one, datas_more}
 use Rattle.print_laws.specs.SameTree.{Same, same_var, same_con, same_ty_tuple, same_arrow, no_tys, more_tys, no_cons, more_cons, more_cons_of, no_datas, more_datas}
 
 -- lists without an item

@@ -25,7 +25,7 @@ use Rattle.sml_syntax.specs.declared.tree.DecForm.TheViews.{roll-out-Exp, roll-o
 use Rattle.sml_syntax.specs.declared.tree.DecForm.TheFolds.{fold-roll-Exp, fold-roll-ExpForm, fold_out-Rule, fold-roll-Piece, fold-roll-Dec, fold-roll-DecForm}
 use Rattle.sml_syntax.specs.Layers.{ExpLayer, DecLayer, PatLayer, form_of_pat, form_of_exp, form_of_dec}
 use Rattle.sml_syntax.specs.NestedTypes.{TyLayer, form_of_ty}
-use Rattle.sml_syntax.specs.Nodes.{exp_at, pat_at, ty_at, dec_at}
+use Rattle.grammar_rules.specs.Nodes.{exp_at, pat_at, ty_at, dec_at}
 use Rattle.print_laws.specs.Printing.{Forms, Ink, RuleInk, Part, closed, atomic, whole, in_parens, parted, alternatives, starred, put, ty_layer, ty_part, ty_forms, put_ty, PatInk, is_cons, con_pat, pats_forms, pat_layer, pat_ink, pat_part, pat_forms, put_pat, head_forms, app_part, exp_layer, exp_ink, exp_part, exp_forms, piece_layer, piece_forms, rule_layer, rule_ink, rule_forms, match_forms, dec_layer, dec_forms, clause_of, inner_clauses, one_clause, several_clause, function_forms, bind_forms, is_number, type_name}
 use Rattle.print_laws.specs.Opened.{ty_text, ty_level, starred_text, pat_text, pat_level, pat_members, con_pat_text, con_pat_level, put_text, app_text, app_level, level_in, opens_in, exp_text, piece_text, dec_text, rule_text, match_text, clause_in, clause_text, clauses_in, first_clauses, lone_in, operator_in, members_in, function_text, several_text}
 use Rattle.print_laws.proofs.Lists.{parted_map, flat_map_map, parted_same, alternatives_map, alternatives_same}

@@ -9,9 +9,9 @@ use Rattle.sml_syntax.specs.declared.tree.Span.{Span}
 use Rattle.sml_syntax.specs.declared.tree.Ty.{Ty}
 use Rattle.sml_syntax.specs.declared.tree.Pat.{Pat}
 use Rattle.sml_syntax.specs.declared.tree.PatForm.TheVariants as p
-use Rattle.sml_syntax.specs.Programs.{Each}
-use Rattle.sml_syntax.specs.Nodes.{pat_at, cons_pat, span_of, extent, last_of}
-use Rattle.sml_syntax.specs.Grammar.{Is, pat_tree, pats_tree, ty_tree, ty, atpat, apat, cpat, pat, pats, atpats, atpat_any, atpat_int, atpat_char, atpat_str, atpat_name, atpat_unit, atpat_paren, atpat_tuple, atpat_no_list, atpat_list, pats_one, pats_more, apat_one, apat_con, cpat_one, cpat_cons, pat_one, pat_typed}
+use Rattle.grammar_rules.specs.Programs.{Each}
+use Rattle.grammar_rules.specs.Nodes.{pat_at, cons_pat, span_of, extent, last_of}
+use Rattle.grammar_rules.specs.Grammar.{Is, pat_tree, pats_tree, ty_tree, ty, atpat, apat, cpat, pat, pats, atpats, atpat_any, atpat_int, atpat_char, atpat_str, atpat_name, atpat_unit, atpat_paren, atpat_tuple, atpat_no_list, atpat_list, pats_one, pats_more, apat_one, apat_con, cpat_one, cpat_cons, pat_one, pat_typed}
 use Rattle.print_laws.specs.SameTree.{Same, same_any, same_pat_int, same_pat_char, same_pat_str, same_pat_unit, same_pat_name, same_pat_tuple, same_pat_list, same_pat_con, same_pat_typed, no_pats, more_pats}
 use Rattle.print_laws.specs.Printing.{Part, PatInk, closed, in_parens, put, head_forms, ty_forms, is_cons, applied_pat, con_pat, pats_forms, pat_ink, pat_part, pat_forms, put_pat}
 use Rattle.print_laws.proofs.Lists.{parted_map}

@@ -7,9 +7,9 @@ use Rattle.sml_syntax.specs.declared.token.TokenForm.TheVariants as f
 use Rattle.sml_syntax.specs.declared.tree.Span.{Span}
 use Rattle.sml_syntax.specs.declared.tree.Ty.{Ty}
 use Rattle.sml_syntax.specs.declared.tree.TyForm.TheVariants as t
-use Rattle.sml_syntax.specs.Programs.{Each}
-use Rattle.sml_syntax.specs.Nodes.{ty_at, span_of, extent}
-use Rattle.sml_syntax.specs.Grammar.{Is, ty_tree, tys_tree, vars_tree, conty, tupty, ty, stars, tys, ty_vars, more_vars, conty_name, conty_var, conty_paren, conty_one, conty_several, tys_one, tys_more, stars_one, stars_more, tupty_one, tupty_several, ty_one, ty_arrow, vars_none, vars_one, vars_several, more_vars_one, more_vars_more}
+use Rattle.grammar_rules.specs.Programs.{Each}
+use Rattle.grammar_rules.specs.Nodes.{ty_at, span_of, extent}
+use Rattle.grammar_rules.specs.Grammar.{Is, ty_tree, tys_tree, vars_tree, conty, tupty, ty, stars, tys, ty_vars, more_vars, conty_name, conty_var, conty_paren, conty_one, conty_several, tys_one, tys_more, stars_one, stars_more, tupty_one, tupty_several, ty_one, ty_arrow, vars_none, vars_one, vars_several, more_vars_one, more_vars_more}
 use Rattle.print_laws.specs.SameTree.{same_var, same_con, same_ty_tuple, same_arrow, no_tys, more_tys}
 use Rattle.print_laws.specs.Printing.{Part, in_parens, put, parted, starred, type_name, ty_part, ty_forms, put_ty, vars_forms}
 use Rattle.print_laws.proofs.Bearing.{At, none, one, word, both, bin, wrap}

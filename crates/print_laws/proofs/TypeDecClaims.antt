@@ -6,11 +6,11 @@ use Rattle.sml_syntax.specs.declared.token.TokenForm.TheVariants as f
 use Rattle.sml_syntax.specs.declared.tree.Span.{Span}
 use Rattle.sml_syntax.specs.declared.tree.Ty.{Ty}
 use Rattle.sml_syntax.specs.declared.tree.DecForm.TheVariants as d
-use Rattle.sml_syntax.specs.InfixNames.{infix_level}
+use Rattle.grammar_rules.specs.InfixNames.{infix_level}
 use Rattle.sml_syntax.specs.NestedTypes.{Datatypes, nested_in_bindings}
-use Rattle.sml_syntax.specs.Programs.{Each}
-use Rattle.sml_syntax.specs.Nodes.{dec_at, extent}
-use Rattle.sml_syntax.specs.Grammar.{Is, IsMark, IsName, ty_tree, vars_tree, dec_tree, abbrevs_tree, cons_tree, datas_tree, ty, ty_vars, dec, abbrevs, datas, cons, exns, dec_type, dec_datatype, dec_exception, abbrevs_one, abbrevs_more, datas_one, datas_more, cons_one, cons_of, cons_more, cons_of_more, exns_one, exns_of, exns_more, exns_of_more}
+use Rattle.grammar_rules.specs.Programs.{Each}
+use Rattle.grammar_rules.specs.Nodes.{dec_at, extent}
+use Rattle.grammar_rules.specs.Grammar.{Is, IsMark, IsName, ty_tree, vars_tree, dec_tree, abbrevs_tree, cons_tree, datas_tree, ty, ty_vars, dec, abbrevs, datas, cons, exns, dec_type, dec_datatype, dec_exception, abbrevs_one, abbrevs_more, datas_one, datas_more, cons_one, cons_of, cons_more, cons_of_more, exns_one, exns_of, exns_more, exns_of_more}
 use Rattle.print_laws.specs.SameTree.{same_abbrev, same_data, same_exn, no_abbrevs, more_abbrevs, no_cons, more_cons, more_cons_of, no_datas, more_datas}
 use Rattle.print_laws.specs.Printing.{Forms, parted, ty_forms, vars_forms, abbrev_forms, argument_forms, con_def_forms, data_forms}
 use Rattle.print_laws.proofs.Bearing.{At, one, word, bin_two}

@@ -5,11 +5,12 @@ use lib.IntN.{ℤ, pos, negsuc}
 use Rattle.sml_syntax.specs.declared.token.Token.{Token}
 use Rattle.sml_syntax.specs.declared.token.TokenForm.{TokenForm}
 use Rattle.sml_syntax.specs.declared.token.TokenForm.TheVariants as f
-use Rattle.sml_syntax.specs.Spelling.{is, expression, is_letter, is_name_byte}
-use Rattle.sml_syntax.specs.Tokens.{Mode, Program, QuotedText, Antiquoted, parens_behind, token, HasTokens}
+use Rattle.grammar_rules.specs.Spelling.{is, expression, is_name_byte}
+use Rattle.sml_syntax.specs.ByteClasses.{is_letter}
+use Rattle.grammar_rules.specs.Tokens.{Mode, Program, QuotedText, Antiquoted, parens_behind, token, HasTokens}
 use Rattle.sml_syntax.specs.declared.tree.Dec.{Dec}
 use Rattle.sml_syntax.specs.declared.tree.Program.{Program as Tree}
-use Rattle.sml_syntax.specs.Programs.{Each}
+use Rattle.grammar_rules.specs.Programs.{Each}
 use Rattle.print_laws.specs.Printing.{has_dot, begins_number, dec_forms, printed}
 use Rattle.print_laws.specs.ReadBack.{IsFine}
 use Rattle.print_laws.specs.Spelled.{spelling, gap, spelled_token, spelled}

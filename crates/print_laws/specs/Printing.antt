@@ -20,9 +20,10 @@ use Rattle.sml_syntax.specs.declared.tree.Dec.{Dec}
 use Rattle.sml_syntax.specs.declared.tree.Program.{Program}
 use Rattle.sml_syntax.specs.declared.tree.DecForm.TheOpen.{DecForm-F, ExpForm-F, Piece-F, Rule-F}
 use Rattle.sml_syntax.specs.declared.tree.DecForm.TheFolds.{fold-Exp, fold-Rule, fold-Piece, fold-Dec}
-use Rattle.sml_syntax.specs.InfixNames.{infix_level, groups_right}
+use Rattle.grammar_rules.specs.InfixNames.{infix_level, groups_right}
 use Rattle.sml_syntax.specs.Layers.{PatLayer, form_of_pat}
-use Rattle.sml_syntax.specs.Spelling.{is_digit, is_among, reserved_words, module_words, layered_words, abstype_words, fixity_words, while_words}
+use Rattle.grammar_rules.specs.Spelling.{is_among, reserved_words, module_words, layered_words, abstype_words, fixity_words, while_words}
+use Rattle.sml_syntax.specs.ByteClasses.{is_digit}
 use Rattle.print_laws.specs.Spelled.{spelled}
 
 abbrev pub Forms : Type 0

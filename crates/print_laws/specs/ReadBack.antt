@@ -7,9 +7,9 @@ use Rattle.sml_syntax.specs.declared.tree.Ty.{Ty}
 use Rattle.sml_syntax.specs.declared.tree.Pat.{Pat}
 use Rattle.sml_syntax.specs.declared.tree.Dec.{Dec}
 use Rattle.sml_syntax.specs.declared.tree.Program.{Program}
-use Rattle.sml_syntax.specs.Tokens.{HasTokens}
-use Rattle.sml_syntax.specs.Programs.{IsProgram, Each, DecFits}
-use Rattle.sml_syntax.specs.Grammar.{Is, expr, exp_tree, ty, ty_tree, pat, pat_tree, dec, dec_tree}
+use Rattle.grammar_rules.specs.Tokens.{HasTokens}
+use Rattle.grammar_rules.specs.Programs.{IsProgram, Each, DecFits}
+use Rattle.grammar_rules.specs.Grammar.{Is, expr, exp_tree, ty, ty_tree, pat, pat_tree, dec, dec_tree}
 use Rattle.print_laws.specs.SameTree.{Same, SameTree}
 use Rattle.print_laws.specs.Printing.{printed, exp_part, exp_forms, ty_forms, pat_forms, dec_forms, program_forms, begins_number}
 

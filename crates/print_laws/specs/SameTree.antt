@@ -13,8 +13,8 @@ use Rattle.sml_syntax.specs.declared.tree.Rule.{Rule}
 use Rattle.sml_syntax.specs.declared.tree.Piece.{Piece}
 use Rattle.sml_syntax.specs.declared.tree.Piece.TheVariants as piece
 use Rattle.sml_syntax.specs.declared.tree.Program.{Program}
-use Rattle.sml_syntax.specs.Nodes.{exp_at, pat_at, ty_at, dec_at, rule_of}
-use Rattle.sml_syntax.specs.Grammar.{Tree, exp_tree, exps_tree, rule_tree, rules_tree, pieces_tree, pat_tree, pats_tree, ty_tree, tys_tree, dec_tree, decs_tree, binds_tree, recs_tree, abbrevs_tree, cons_tree, datas_tree}
+use Rattle.grammar_rules.specs.Nodes.{exp_at, pat_at, ty_at, dec_at, rule_of}
+use Rattle.grammar_rules.specs.Grammar.{Tree, exp_tree, exps_tree, rule_tree, rules_tree, pieces_tree, pat_tree, pats_tree, ty_tree, tys_tree, dec_tree, decs_tree, binds_tree, recs_tree, abbrevs_tree, cons_tree, datas_tree}
 
 pub data Same : Tree → Tree → Type 0 where
   -- expressions

@@ -4,8 +4,8 @@ use Rattle.sml_syntax.specs.declared.token.Token.{Token}
 use Rattle.sml_syntax.specs.declared.token.TokenForm.{TokenForm}
 use Rattle.sml_syntax.specs.declared.token.TokenForm.TheVariants as f
 use Rattle.sml_syntax.specs.declared.tree.Program.{Program}
-use Rattle.sml_syntax.specs.Spelling.{is_name_byte}
-use Rattle.sml_syntax.specs.Programs.{IsProgram, Each}
+use Rattle.grammar_rules.specs.Spelling.{is_name_byte}
+use Rattle.grammar_rules.specs.Programs.{IsProgram, Each}
 use Rattle.print_laws.specs.Printing.{has_dot, is_lone, program_forms}
 use Rattle.print_laws.specs.Bytes.{Outside, Stands, is_text, is_anti, Fits}
 use Rattle.print_laws.specs.ReadBack.{IsFine}

@@ -5,7 +5,7 @@ use Rattle.region_syntax.specs.declared.types.Effect.{Effect}
 use Rattle.region_syntax.specs.declared.types.MTy.{MTy}
 use Rattle.region_syntax.specs.declared.types.MData.{MData}
 use Rattle.region_syntax.specs.declared.types.RTy.{RTy}
-use Rattle.region_syntax.specs.declared.specialised.Constructor.{Constructor}
+use Rattle.sml_syntax.specs.declared.constructor.Constructor.{Constructor}
 use Rattle.region_syntax.specs.declared.specialised.MPat.{MPat, roll-MPat}
 use Rattle.region_syntax.specs.declared.specialised.MPatForm.{MPatForm}
 use Rattle.region_syntax.specs.declared.specialised.MPatForm.TheOpen.{MPatForm-F}

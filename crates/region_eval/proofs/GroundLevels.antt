@@ -1,101 +1,125 @@
--- Heights of specialised terms, side by side.
-use Rattle.std.proofs.Common.{ℕ, zero, suc, ◌+◌, ◌≤◌, [], subst, arith}
+-- Heights and answers of specialised terms, side by side.
+use Rattle.std.proofs.Common.{ℕ, zero, suc, ◌+◌, ◌≤◌, List, [], refl, subst, arith}
+use Rattle.web_data.specs.declared.database.WebAns.{WebAns}
 use Rattle.region_syntax.specs.GroundTerms as g
-use Rattle.region_eval.specs.RunState.{Done, Over, then_do, counted}
-use Rattle.region_eval.specs.GroundValues.{Env}
+use Rattle.sml_evaluation.specs.RunState.{Done, Over, then_do, counted, count_of}
+use Rattle.region_eval.specs.GroundValues.{Value, Env}
 use Rattle.region_eval.specs.GroundPrimitives.{State, Outcome}
 use Rattle.region_eval.specs.GroundEvaluation.{Level, Plan, plan_of, exp_result, Coming, Comes, Ends, coming, with_dec, with_coming, over_scope, nothing, exp_above, above, level, eval, eval_decs}
-use Rattle.region_eval.specs.Heights.{count_of, Betters}
-use Rattle.region_eval.proofs.Relations.{done_R, weaker, then_R, one_more, and_more, then_betters}
-use Rattle.region_eval.proofs.GroundPatterns.{S, pat_R, same_R}
-use Rattle.region_eval.proofs.GroundExpressions.{Evaluates, Levels, each_value_R, form_R, with_binding_R, dec_starts, scope_R}
+use Rattle.eval_laws.specs.Heights.{Betters, with_more, Begins, calls_of, Extends}
+use Rattle.eval_laws.proofs.Relations.{Mode, Higher, Longer, along, on, stays, done_here, weaker, ran_out, betters_at, as_extends, then_betters, one_more, and_more}
+use Rattle.region_eval.proofs.GroundWalks.{S, Evaluates, Levels, Walk, walk_of, base, then_S, each_value_R}
+use Rattle.region_eval.proofs.GroundPatterns.{pat_R, same_R}
+use Rattle.region_eval.proofs.GroundExpressions.{form_R, binding_starts, dec_R, scope_R}
 
-exp_R : {k : ℕ} (l h : Level) → Levels k l h → (env : Env) (s : State) (e : g.Exp) → S k s.shared.count (exp_result l env s e) (exp_result h env s e)
-exp_R l h r env s (g.exp a form) = form_R l h r env s a form
+exp_R : (w : Walk) (env : Env) (s : State) (e : g.Exp) → S w.m s (exp_result w.l env s e) (exp_result w.h env (along w.m s) e)
+exp_R w env s (g.exp a form) = form_R w env s a form
 
-exp_above_R : {k : ℕ} (l h : Level) → Levels k l h → Evaluates k (exp_above l) (exp_above h)
-exp_above_R l h r env s e = weaker (s.shared.count + 1) (omega arith) (exp_R l h r env (counted 1 s) e)
+exp_above_R : (w : Walk) → Evaluates w.m (exp_above w.l) (exp_above w.h)
+exp_above_R w env s e = weaker (on (omega arith) refl) (exp_R w env (counted 1 s) e)
 
-above_R : {k : ℕ} (l h : Level) → Levels k l h → Levels k (above l) (above h)
-above_R l h r = record {
-  exp = exp_above_R l h r;
-  pat = λ s p v. weaker (s.shared.count + 1) (omega arith) (pat_R l.pat h.pat r.pat (counted 1 s) p v);
-  same = λ v w s. weaker (s.shared.count + 1) (omega arith) (same_R l.same h.same r.same v w (counted 1 s));
-  scope = scope_R l h r (exp_above l) (exp_above h) (exp_above_R l h r);
+above_R : (w : Walk) → Levels w.m (above w.l) (above w.h)
+above_R w = record {
+  exp = exp_above_R w;
+  pat = λ s p v. weaker (on (omega arith) refl) (pat_R w (counted 1 s) p v);
+  same = λ a b s. weaker (on (omega arith) refl) (same_R w a b (counted 1 s));
+  scope = scope_R w (exp_above w.l) (exp_above w.h) (exp_above_R w) (exp_above_R (base w));
 }
 
--- at height 0
-over_R : {A : Type 0} (s : State) → S {A = A} 0 s.shared.count (Over s) (Over s)
-over_R s = record { low = omega arith; high = omega arith; better = omega arith }
+-- ---- at height 0, and at the same height
 
-over_scope_R : (outer env : Env) (s : State) (bindings : g.Rules) (plan : Plan) → S 0 s.shared.count (over_scope outer env s bindings plan) (over_scope outer env s bindings plan)
-over_scope_R outer env s (g.rules p e bindings) plan = over_R s
-over_scope_R outer env s g.no_rules plan = ended (coming env plan.decs plan.pending plan.body)
+-- both evaluations have the same height
+pub data SameHeight : Mode → Type 0 where
+  no_higher : SameHeight (Higher 0)
+  longer : (more : List WebAns) → SameHeight (Longer more)
+
+over_here : {A : Type 0} {m : Mode} → SameHeight m → (s : State) → S {A = A} m s (Over s) (Over (along m s))
+over_here no_higher s = record { low = stays s; high = on (omega arith) refl; better = omega arith }
+over_here (longer more) s = record { low = stays s; high = on (omega arith) refl; better = refl }
+
+over_scope_R : {m : Mode} → SameHeight m → (outer env : Env) (s : State) (bindings : g.Rules) (plan : Plan) → S m s (over_scope outer env s bindings plan) (over_scope outer env (along m s) bindings plan)
+over_scope_R q outer env s (g.rules p e bindings) plan = over_here q s
+over_scope_R {m = m} q outer env s g.no_rules plan = ended (coming env plan.decs plan.pending plan.body)
   where
-    ended : (c : Coming) → S 0 s.shared.count (with_coming (λ env1 s1 e. Over s1) (λ env1 s1 d plan1. Over s) s plan.body c) (with_coming (λ env1 s1 e. Over s1) (λ env1 s1 d plan1. Over s) s plan.body c)
-    ended (Comes env1 d plan1) = over_R s
-    ended (Ends env1) = then_R (each_value_R (λ env2 s1 e. Over s1) (λ env2 s1 e. Over s1) (λ env2 s1 e. over_R s1) env1 s plan.body) (λ vs s1. done_R (omega arith))
+    ended : (c : Coming) → S m s (with_coming (λ env1 s1 e. Over s1) (λ env1 s1 d plan1. Over s) s plan.body c) (with_coming (λ env1 s1 e. Over s1) (λ env1 s1 d plan1. Over (along m s)) (along m s) plan.body c)
+    ended (Comes env1 d plan1) = over_here q s
+    ended (Ends env1) = then_S (λ vs s1. Done (env1, vs) s1)
+        (each_value_R (λ env2 s1 e. Over s1) (λ env2 s1 e. Over s1) (λ env2 s1 e. over_here q s1) (λ env2 s1 e. over_here no_higher s1) env1 s plan.body) (λ k vs s1. done_here)
 
-nothing_R : Levels 0 nothing nothing
-nothing_R = record {
-  exp = λ env s e. over_R s;
-  pat = λ s p v. over_R s;
-  same = λ v w s. over_R s;
-  scope = over_scope_R;
+nothing_R : {m : Mode} → SameHeight m → Levels m nothing nothing
+nothing_R q = record {
+  exp = λ env s e. over_here q s;
+  pat = λ s p v. over_here q s;
+  same = λ a b s. over_here q s;
+  scope = over_scope_R q;
 }
 
--- counts only grow
-itself : (n : ℕ) → Levels 0 (level n) (level n)
-itself zero = nothing_R
-itself (suc n) = above_R (level n) (level n) (itself n)
+pub itself : {m : Mode} → SameHeight m → (n : ℕ) → Levels m (level n) (level n)
+itself q zero = nothing_R q
+itself {m = m} q (suc n) = above_R (walk_of m (level n) (level n) (itself q n) (itself no_higher n))
 
--- what runs out at height 0 counts one more at height 1
-begins : {A : Type 0} (s : State) (o : Outcome A) → S 0 (s.shared.count + 1) o o → S 1 s.shared.count (Over s) o
-begins s o r = let a = r.high in record { low = omega arith; high = omega (arith, a); better = a }
+-- ---- what runs out at height 0 counts one more at height 1
 
-first_scope : (outer env : Env) (s : State) (bindings : g.Rules) (plan : Plan) → S 1 s.shared.count (nothing.scope outer env s bindings plan) ((above nothing).scope outer env s bindings plan)
-first_scope outer env s (g.rules p e bindings) plan = begins s _ (with_binding_R nothing nothing nothing_R outer env s p e bindings plan)
+abbrev at_nothing : Walk
+at_nothing = walk_of (Higher 0) nothing nothing (nothing_R no_higher) (nothing_R no_higher)
+
+first_exp : Evaluates (Higher 1) nothing.exp (above nothing).exp
+first_exp env s e = ran_out {t = counted 1 s} (omega arith) refl (exp_R at_nothing env (counted 1 s) e).high
+
+first_scope : (outer env : Env) (s : State) (bindings : g.Rules) (plan : Plan) → S (Higher 1) s (nothing.scope outer env s bindings plan) ((above nothing).scope outer env (with_more [] s) bindings plan)
+first_scope outer env s (g.rules p e bindings) plan = ran_out {t = counted 1 s} (omega arith) refl (binding_starts at_nothing outer env s p e bindings plan).high
 first_scope outer env s g.no_rules plan = begun (coming env plan.decs plan.pending plan.body)
   where
-    begun : (c : Coming) → S 1 s.shared.count (with_coming (λ env1 s1 e. Over s1) (λ env1 s1 d plan1. Over s) s plan.body c) (with_coming (exp_above nothing) (with_dec nothing) s plan.body c)
-    begun (Comes env1 d plan1) = begins s _ (dec_starts nothing nothing nothing_R env1 s d plan1)
-    begun (Ends env1) =
-        then_R (each_value_R (λ env2 s1 e. Over s1) (exp_above nothing) (λ env2 s1 e. begins s1 _ (exp_R nothing nothing nothing_R env2 (counted 1 s1) e)) env1 s plan.body)
-        (λ vs s1. done_R (omega arith))
+    begun : (c : Coming) → S (Higher 1) s (with_coming (λ env1 s1 e. Over s1) (λ env1 s1 d plan1. Over s) s plan.body c) (with_coming (exp_above nothing) (with_dec nothing) (with_more [] s) plan.body c)
+    begun (Comes env1 d plan1) = ran_out {t = counted 1 s} (omega arith) refl (dec_R at_nothing env1 (counted 1 s) d plan1).high
+    begun (Ends env1) = then_S (λ vs s1. Done (env1, vs) s1) (each_value_R (λ env2 s1 e. Over s1) (exp_above nothing) first_exp (exp_above_R at_nothing) env1 s plan.body) (λ k vs s1. done_here)
 
-first_R : Levels 1 nothing (above nothing)
+first_R : Levels (Higher 1) nothing (above nothing)
 first_R = record {
-  exp = λ env s e. begins s _ (exp_R nothing nothing nothing_R env (counted 1 s) e);
-  pat = λ s p v. begins s _ (pat_R nothing.pat nothing.pat nothing_R.pat (counted 1 s) p v);
-  same = λ v w s. begins s _ (same_R nothing.same nothing.same nothing_R.same v w (counted 1 s));
+  exp = first_exp;
+  pat = λ s p v. ran_out {t = counted 1 s} (omega arith) refl (pat_R at_nothing (counted 1 s) p v).high;
+  same = λ a b s. ran_out {t = counted 1 s} (omega arith) refl (same_R at_nothing a b (counted 1 s)).high;
   scope = first_scope;
 }
 
-next_height : (n : ℕ) → Levels 1 (level n) (level (suc n))
+pub next_height : (n : ℕ) → Levels (Higher 1) (level n) (level (suc n))
 next_height zero = first_R
-next_height (suc n) = above_R (level n) (level (suc n)) (next_height n)
+next_height (suc n) = above_R (walk_of (Higher 1) (level n) (level (suc n)) (next_height n) (itself no_higher (suc n)))
 
 -- ---- whole evaluations
 
+next_exp : (n : ℕ) (env : Env) (s : State) (e : g.Exp) → Betters 1 (eval n env s e) (eval (suc n) env s e)
+next_exp n env s e = betters_at 1 (λ t. eval (suc n) env t e) (eval n env s e) s ((next_height n).exp env s e)
+
 pub higher_exp : (n m : ℕ) (env : Env) (s : State) (e : g.Exp) → Betters 1 (eval n env s e) (eval (n + suc m) env s e)
-higher_exp n zero env s e = subst (λ x. Betters 1 (eval n env s e) (eval x env s e)) (one_more n) ((next_height n).exp env s e).better
+higher_exp n zero env s e = subst (λ x. Betters 1 (eval n env s e) (eval x env s e)) (one_more n) (next_exp n env s e)
 higher_exp n (suc m) env s e =
     subst (λ x. Betters 1 (eval n env s e) (eval x env s e)) (and_more n m)
-    (then_betters (eval n env s e) (eval (n + suc m) env s e) (eval (suc (n + suc m)) env s e) (higher_exp n m env s e) ((next_height (n + suc m)).exp env s e).better)
+    (then_betters (eval n env s e) (eval (n + suc m) env s e) (eval (suc (n + suc m)) env s e) (higher_exp n m env s e) (next_exp (n + suc m) env s e))
 
-decs_R : {k : ℕ} (l h : Level) → Levels k l h → (env : Env) (s : State) (decs : g.Decs)
-    → S k s.shared.count (then_do (l.scope env env s g.no_rules (plan_of decs [] g.no_exps)) (λ x s1. Done x.0 s1)) (then_do (h.scope env env s g.no_rules (plan_of decs [] g.no_exps)) (λ x s1. Done x.0 s1))
-decs_R l h r env s decs = then_R (r.scope env env s g.no_rules (plan_of decs [] g.no_exps)) (λ x s1. done_R (omega arith))
+decs_R : {m : Mode} {l h : Level} → Levels m l h → (env : Env) (s : State) (decs : g.Decs)
+    → S m s (then_do (l.scope env env s g.no_rules (plan_of decs [] g.no_exps)) (λ x s1. Done x.0 s1)) (then_do (h.scope env env (along m s) g.no_rules (plan_of decs [] g.no_exps)) (λ x s1. Done x.0 s1))
+decs_R r env s decs = then_S (λ x s1. Done x.0 s1) (r.scope env env s g.no_rules (plan_of decs [] g.no_exps)) (λ k x s1. done_here)
+
+next_decs : (n : ℕ) (env : Env) (s : State) (decs : g.Decs) → Betters 1 (eval_decs n env s decs) (eval_decs (suc n) env s decs)
+next_decs n env s decs = betters_at 1 (λ t. eval_decs (suc n) env t decs) (eval_decs n env s decs) s (decs_R (next_height n) env s decs)
 
 pub higher_decs : (n m : ℕ) (env : Env) (s : State) (decs : g.Decs) → Betters 1 (eval_decs n env s decs) (eval_decs (n + suc m) env s decs)
-higher_decs n zero env s decs = subst (λ x. Betters 1 (eval_decs n env s decs) (eval_decs x env s decs)) (one_more n) (decs_R (level n) (level (suc n)) (next_height n) env s decs).better
+higher_decs n zero env s decs = subst (λ x. Betters 1 (eval_decs n env s decs) (eval_decs x env s decs)) (one_more n) (next_decs n env s decs)
 higher_decs n (suc m) env s decs =
     subst (λ x. Betters 1 (eval_decs n env s decs) (eval_decs x env s decs)) (and_more n m)
-    (then_betters (eval_decs n env s decs) (eval_decs (n + suc m) env s decs) (eval_decs (suc (n + suc m)) env s decs) (higher_decs n m env s decs)
-    (decs_R (level (n + suc m)) (level (suc (n + suc m))) (next_height (n + suc m)) env s decs).better)
+    (then_betters (eval_decs n env s decs) (eval_decs (n + suc m) env s decs) (eval_decs (suc (n + suc m)) env s decs) (higher_decs n m env s decs) (next_decs (n + suc m) env s decs))
 
-pub grown_exp : (n : ℕ) (env : Env) (s : State) (e : g.Exp) → s.shared.count ≤ count_of (eval n env s e)
-grown_exp n env s e = ((itself n).exp env s e).low
+pub grown_exp : (n : ℕ) (env : Env) (s : State) (e : g.Exp) → s.count ≤ count_of (eval n env s e)
+grown_exp n env s e = ((itself no_higher n).exp env s e).low.count
 
-pub grown_decs : (n : ℕ) (env : Env) (s : State) (decs : g.Decs) → s.shared.count ≤ count_of (eval_decs n env s decs)
-grown_decs n env s decs = (decs_R (level n) (level n) (itself n) env s decs).low
+pub grown_decs : (n : ℕ) (env : Env) (s : State) (decs : g.Decs) → s.count ≤ count_of (eval_decs n env s decs)
+grown_decs n env s decs = (decs_R (itself no_higher n) env s decs).low.count
+
+-- ---- more answers
+
+pub more_exp : (more : List WebAns) (n : ℕ) (env : Env) (s : State) (e : g.Exp) → Extends more (eval n env s e) (eval n env (with_more more s) e)
+more_exp more n env s e = as_extends more (eval n env s e) (eval n env (with_more more s) e) ((itself (longer more) n).exp env s e).better
+
+pub more_decs : (more : List WebAns) (n : ℕ) (env : Env) (s : State) (decs : g.Decs) → Extends more (eval_decs n env s decs) (eval_decs n env (with_more more s) decs)
+more_decs more n env s decs = as_extends more (eval_decs n env s decs) (eval_decs n env (with_more more s) decs) (decs_R (itself (longer more) n) env s decs).better

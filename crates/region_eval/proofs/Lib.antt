@@ -1,5 +1,6 @@
 pub mod Relations
 pub mod Rows
+pub mod GroundWalks
 pub mod GroundPatterns
 pub mod GroundRows
 pub mod GroundExpressions

@@ -7,7 +7,7 @@ use Rattle.region_syntax.specs.GroundTerms as g
 use Rattle.region_syntax.specs.RegionTypes as t
 use Rattle.region_syntax.specs.RegionTypes.{RegionType}
 use Rattle.region_syntax.specs.RegionTerms as r
-use Rattle.region_eval.specs.RunState.{Done, NoRule}
+use Rattle.sml_evaluation.specs.RunState.{Done, NoRule}
 use Rattle.region_eval.specs.GroundValues.{Env}
 use Rattle.region_eval.specs.GroundPrimitives as ground
 use Rattle.region_eval.specs.RegionStore.{Value, Outcome}

@@ -7,17 +7,17 @@
 -- pair of values compared, when it is begun; and the words of the values made, a function's with the nodes of the types of the names free in it.
 use Rattle.std.specs.Prelude.{ℕ, zero, suc, ◌+◌, ◌-◌, ◌*◌, ◌==◌, ℤ, Bool, true, false, List, [], ◌∷◌, ◌++◌, length, slice_get, Option, Some, None, if◌then◌else◌}
 use Rattle.std.specs.Str.{bytes_eq}
-use Rattle.sml_syntax.specs.Values.{text_size}
-use Rattle.sml_syntax.specs.Evaluation.{same_int}
-use Rattle.region_syntax.specs.declared.specialised.Constructor.{Constructor}
-use Rattle.region_syntax.specs.declared.specialised.Constructor.TheVariants as con
+use Rattle.sml_evaluation.specs.Values.{same_con, text_size}
+use Rattle.sml_evaluation.specs.Evaluation.{same_int}
+use Rattle.sml_syntax.specs.declared.constructor.Constructor.{Constructor}
+use Rattle.sml_syntax.specs.declared.constructor.Constructor.TheVariants as con
 use Rattle.region_syntax.specs.GroundTypes as t
 use Rattle.region_syntax.specs.GroundTypes.{GroundType}
 use Rattle.region_syntax.specs.GroundTerms as g
-use Rattle.region_eval.specs.RunState.{Done, Raised, Over, Waits, then_do, handled, counted, storing}
+use Rattle.sml_evaluation.specs.RunState.{Done, Raised, Over, Waits, then_do, handled, found, counted, storing}
 use Rattle.region_eval.specs.GroundValues.{Value, Int, Char, Str, Unit, Tuple, Con, Applied, Packet, PacketOf, Ref, Fun, Maker, Prim, Values, no_values, values, many_values, last_of, list_value, bool_value, Env, no_names, bind, value_at, before, many_names, first_names, bindings_of}
-use Rattle.region_eval.specs.FreeNames.{free_in_rules, free_in_group, function_words, group_words}
-use Rattle.region_eval.specs.GroundPrimitives.{State, Outcome, found, Comparing, prim_application, prim_named}
+use Rattle.region_syntax.specs.FreeNames.{free_in_rules, free_in_group, function_words, group_words}
+use Rattle.region_eval.specs.GroundPrimitives.{State, Outcome, Comparing, prim_application, prim_named}
 
 -- ---- the evaluations of parts
 
@@ -108,7 +108,7 @@ cell_match part s p next _ = Waits s
 
 -- the pattern `[p1, .., pn]`
 abbrev pub list_match : Matcher → State → g.Pats → Value → Outcome (Option Env)
-list_match part s g.no_pats (Con d i) = fits_if true s
+list_match part s g.no_pats (Con d i) = fits_if (same_con d i 1 0) s
 list_match part s g.no_pats (Applied d i cell) = fits_if false s
 list_match part s (g.pats p ps) (Con d i) = fits_if false s
 list_match part s (g.pats p ps) (Applied d i cell) = cell_match part s p (λ s1 tail. list_match part s1 ps tail) cell
@@ -116,7 +116,7 @@ list_match part s _ _ = Waits s
 
 -- a constructor without an argument
 abbrev pub constructor_match : Constructor → Value → State → Outcome (Option Env)
-constructor_match (con.Data d i) (Con e j) s = fits_if (i == j) s
+constructor_match (con.Data d i) (Con e j) s = fits_if (same_con d i e j) s
 constructor_match (con.Data d i) (Applied e j v) s = fits_if false s
 constructor_match (con.Exn n) (Packet m) s = fits_if (n == m) s
 constructor_match (con.Exn n) (PacketOf m v) s = fits_if (n == m) s
@@ -129,7 +129,7 @@ held_match part s p (Some v) = part s p v
 
 abbrev pub applied_match : Matcher → State → Constructor → g.Pat → Value → Outcome (Option Env)
 applied_match part s (con.Data d i) p (Con e j) = fits_if false s
-applied_match part s (con.Data d i) p (Applied e j v) = if i == j then part s p v else fits_if false s
+applied_match part s (con.Data d i) p (Applied e j v) = if same_con d i e j then part s p v else fits_if false s
 applied_match part s (con.Exn n) p (Packet m) = fits_if false s
 applied_match part s (con.Exn n) p (PacketOf m v) = if n == m then part s p v else fits_if false s
 applied_match part s con.Ref p (Ref number) = held_match part s p (slice_get s.store number)
@@ -184,10 +184,10 @@ same_result part (Char a) (Char b) s = Done (a == b) s
 same_result part (Str a) (Str b) s = Done (bytes_eq a b) s
 same_result part Unit Unit s = Done true s
 same_result part (Tuple vs) (Tuple ws) s = each_same part vs ws s
-same_result part (Con d i) (Con e j) s = Done (i == j) s
+same_result part (Con d i) (Con e j) s = Done (same_con d i e j) s
 same_result part (Con d i) (Applied e j w) s = Done false s
 same_result part (Applied d i v) (Con e j) s = Done false s
-same_result part (Applied d i v) (Applied e j w) s = if i == j then part v w s else Done false s
+same_result part (Applied d i v) (Applied e j w) s = if same_con d i e j then part v w s else Done false s
 same_result part (Ref a) (Ref b) s = Done (a == b) s
 same_result part _ _ s = Waits s
 
@@ -240,7 +240,7 @@ application low _ v s = Waits s
 
 -- by a bool
 abbrev pub by_bool : Value → (State → Outcome Value) → (State → Outcome Value) → State → Outcome Value
-by_bool (Con d i) first second s = if i == 1 then first s else second s
+by_bool (Con d i) first second s = if same_con d i 0 1 then first s else second s
 by_bool _ first second s = Waits s
 
 -- an expression by its form, the parts at the lower level

@@ -1,14 +1,13 @@
 -- What the items of a specialised program come to from an empty store: the calls that they make, and their end; and the work and depth of that.
 use Rattle.std.specs.Prelude.{◌≡◌, ℕ, List, [], Option, Some, None}
 use Rattle.std.specs.List.{slice_get}
-use Rattle.sml_syntax.specs.declared.database.WebCall.{WebCall}
-use Rattle.sml_syntax.specs.declared.database.WebAns.{WebAns}
-use Rattle.sml_syntax.specs.Page.{PageEnd, Finished, Uncaught, Refused, Endless, start_state}
+use Rattle.web_data.specs.declared.database.WebCall.{WebCall}
+use Rattle.web_data.specs.declared.database.WebAns.{WebAns}
+use Rattle.sml_evaluation.specs.Page.{PageEnd, Finished, Uncaught, Refused, Waiting, Endless, start_state, IsOver}
 use Rattle.region_syntax.specs.GroundTypes.{GroundType}
 use Rattle.region_syntax.specs.GroundTerms.{Program}
 use Rattle.region_syntax.specs.Cost.{IsWork, IsDepth}
-use Rattle.region_eval.specs.RunState.{Done, Raised, BadStatement, Over, Waits, state_of}
-use Rattle.region_eval.specs.Heights.{count_of}
+use Rattle.sml_evaluation.specs.RunState.{Done, Raised, BadStatement, Over, Waits, state_of, count_of}
 use Rattle.region_eval.specs.GroundValues.{Value, Packet, PacketOf, Env, no_names}
 use Rattle.region_eval.specs.GroundPrimitives.{State, Outcome}
 use Rattle.region_eval.specs.GroundEvaluation.{eval_decs}
@@ -20,7 +19,7 @@ pub record Request : Type 0 where
   pub answers : List WebAns
 
 abbrev pub start : Request → State
-start q = state_of (start_state q.form q.databases q.answers) []
+start q = state_of (start_state q.form q.databases q.answers) [] 0
 
 -- the items at a height
 abbrev pub run : ℕ → Program → Request → Outcome Env
@@ -42,13 +41,12 @@ EndsAs p (Done env s) calls (Finished status content_type body) =
     (s.shared.calls ≡ calls) × (s.shared.status ≡ status) × (s.shared.content_type ≡ content_type) × (s.shared.body ≡ body)
 EndsAs p (Raised v s) calls (Uncaught name) = (s.shared.calls ≡ calls) × IsNamed p name (number_of_packet v)
 EndsAs p (BadStatement place s) calls (Refused n) = (s.shared.calls ≡ calls) × (place ≡ n)
-EndsAs p (Over s) calls Endless = s.shared.calls ≡ calls
-EndsAs p (Waits s) calls Endless = s.shared.calls ≡ calls
+EndsAs p (Waits s) calls Waiting = s.shared.calls ≡ calls
 EndsAs p _ calls end = ⊥
 
--- the program comes to this end with these calls: at some height, or without an end at each height
+-- the program comes to this end with these calls at some height; or the height runs out at each one, and no calls are told
 abbrev pub GroundPage : Program → Request → List WebCall → PageEnd → Type 0
-GroundPage p q calls Endless = (n : ℕ) → (made : List WebCall) × EndsAs p (run n p q) made Endless
+GroundPage p q calls Endless = (calls ≡ []) × ((n : ℕ) → IsOver (run n p q))
 GroundPage p q calls end = (n : ℕ) × EndsAs p (run n p q) calls end
 
 -- the rules and words at a height; the greatest of them, and the least height at which they are that

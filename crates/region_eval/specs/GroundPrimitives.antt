@@ -1,19 +1,17 @@
 -- The primitives of the basis on the values of specialised terms: what they are on the values of programs, other than those on references and
 -- the tests of equality.
-use Rattle.std.specs.Prelude.{ℕ, suc, Bool, not, nat_lt, List, [], ◌∷◌, length, set, slice_get, Option, Some, None, codes, if◌then◌else◌, ◌+◌}
+use Rattle.std.specs.Prelude.{ℕ, suc, Bool, not, nat_lt, List, [], ◌∷◌, length, set, slice_get, Option, Some, None, if◌then◌else◌, ◌+◌}
 use Rattle.std.specs.Option.{option_map}
-use Rattle.std.specs.Str.{bytes_eq}
-use Rattle.sml_syntax.specs.declared.value.Value as plain
-use Rattle.sml_syntax.specs.declared.value.Bound.TheOpen.{Value-F}
-use Rattle.sml_syntax.specs.declared.value.Bound.TheFolds.{fold-Value}
-use Rattle.sml_syntax.specs.Values as make
-use Rattle.sml_syntax.specs.Outcome as source
-use Rattle.sml_syntax.specs.Outcome.{EvalState}
-use Rattle.sml_syntax.specs.DataValues.{both_of}
-use Rattle.sml_syntax.specs.Primitives.{Row, Constant, First, Second, Third, Same, primitives, row_of, row_value, prim_result}
-use Rattle.region_eval.specs.RunState.{RunState, Ending, Done, Raised, Waits, then_do, counted, storing, Carrying, carried}
-use Rattle.region_eval.specs.GroundValues.{Value, Int, Char, Str, Unit, Tuple, Con, Applied, Packet, PacketOf, Ref, Fun, Prim, Desc, Cache, Values, no_values, values, many_values, and_value, bool_value}
-use Rattle.region_eval.specs.BasisConstructors.{constructor_name, constructor_named}
+use Rattle.sml_evaluation.specs.declared.value.Value as plain
+use Rattle.sml_evaluation.specs.declared.value.Bound.TheOpen.{Value-F}
+use Rattle.sml_evaluation.specs.declared.value.Bound.TheFolds.{fold-Value}
+use Rattle.sml_evaluation.specs.Values as make
+use Rattle.sml_evaluation.specs.Outcome as source
+use Rattle.sml_evaluation.specs.DataValues.{both_of}
+use Rattle.sml_evaluation.specs.Primitives.{Row, Constant, First, Second, Third, Contents, Assigned, Same, primitives, row_of, row_value, prim_result}
+use Rattle.sml_evaluation.specs.RunState.{RunState, Ending, Done, Raised, Waits, then_do, found, counted, storing}
+use Rattle.region_eval.specs.Carried.{plain_state, Carrying, carried}
+use Rattle.region_eval.specs.GroundValues.{Value, Int, Char, Str, Unit, Tuple, Con, Applied, Packet, PacketOf, Ref, Fun, Maker, Prim, Desc, Cache, Values, no_values, values, many_values, and_value, bool_value}
 
 -- the references by their numbers
 abbrev pub State : Type 0
@@ -31,8 +29,8 @@ abbrev mutual
   seen (Str bytes) = Some (make.text_value bytes)
   seen Unit = Some make.unit_value
   seen (Tuple vs) = option_map make.tuple_value (all_seen vs)
-  seen (Con d i) = option_map make.con_value (constructor_name d i)
-  seen (Applied d i v) = both_of make.applied_value (constructor_name d i) (seen v)
+  seen (Con d i) = Some (make.con_value d i)
+  seen (Applied d i v) = option_map (make.applied_value d i) (seen v)
   seen (Desc d) = Some (make.desc_value d)
   seen (Cache id) = Some (make.cache_value id)
   seen _ = None
@@ -53,10 +51,11 @@ taken_by (Value-F.Char c) = Some (Char c)
 taken_by (Value-F.Str bytes) = Some (Str bytes)
 taken_by Value-F.Unit = Some Unit
 taken_by (Value-F.Tuple vs) = option_map Tuple (all_taken vs)
-taken_by (Value-F.Con name None) = option_map (λ c. Con c.0 c.1) (constructor_named name)
-taken_by (Value-F.Con name (Some v)) = both_of (λ c w. Applied c.0 c.1 w) (constructor_named name) v
-taken_by (Value-F.Exn number name None) = Some (Packet number)
-taken_by (Value-F.Exn number name (Some v)) = option_map (PacketOf number) v
+taken_by (Value-F.Con d i) = Some (Con d i)
+taken_by (Value-F.Applied d i v) = option_map (Applied d i) v
+taken_by (Value-F.Exn number None) = Some (Packet number)
+taken_by (Value-F.Exn number (Some v)) = option_map (PacketOf number) v
+taken_by (Value-F.Maker c) = Some (Maker c)
 taken_by (Value-F.Ref number) = None
 taken_by (Value-F.Fun closure) = None
 taken_by (Value-F.Prim name vs) = option_map (Prim name) (all_taken vs)
@@ -68,10 +67,6 @@ taken v = fold-Value ℕ (Option Value) ℕ (λ b. 0) taken_by (λ c. 0) v
 
 -- ---- applications
 
-abbrev pub found : {A B : Type 0} → (A → State → Outcome B) → Option A → State → Outcome B
-found f None s = Waits s
-found f (Some x) s = f x s
-
 abbrev pub carrying : Carrying ⊥ Value (List Value)
 carrying = record {
   value = λ v s. found (λ w s1. Done w s1) (taken v) s;
@@ -80,13 +75,13 @@ carrying = record {
 }
 
 -- no two values are compared by the other primitives
-abbrev pub never : plain.Value → plain.Value → EvalState → source.Outcome Bool
-never v w s = source.Waits s
+abbrev pub never : plain.Value → plain.Value → source.State → source.Outcome Bool
+never v w s = Waits s
 
 -- a primitive with the arguments before the last one, and that one
 abbrev pub called : List ℕ → Values → Value → State → Outcome Value
 called name arguments v s =
-    found (λ xs s1. found (λ x s2. carried carrying s2.store (prim_result never name xs x s2.shared)) (seen v) s1) (all_seen arguments) s
+    found (λ xs s1. found (λ x s2. carried carrying s2.store (prim_result never name xs x (plain_state s2))) (seen v) s1) (all_seen arguments) s
 
 -- what a reference holds, and a new content
 abbrev pub contents : Value → State → Outcome Value
@@ -116,19 +111,16 @@ wanted_by (Constant v) = 0
 wanted_by (First f) = 1
 wanted_by (Second f) = 2
 wanted_by (Third f) = 3
+wanted_by Contents = 1
+wanted_by Assigned = 1
 wanted_by (Same b) = 1
-
--- a primitive on the store, by its name, or another one
-abbrev pub stored : List ℕ → Value → State → (State → Outcome Value) → Outcome Value
-stored name v s other = if bytes_eq name (codes "!") then contents v s else if bytes_eq name (codes ":=") then assigned v s else other s
 
 -- a row with the arguments so far, applied to one more
 abbrev pub row_result : Comparing → List ℕ → Row → Values → Value → State → Outcome Value
 row_result same name (Same wanted) arguments v s = equality same wanted v s
-row_result same name row arguments v s =
-    if nat_lt (suc (many_values arguments)) (wanted_by row)
-    then held name (and_value arguments v) s
-    else stored name v s (λ s1. called name arguments v s1)
+row_result same name Contents arguments v s = contents v s
+row_result same name Assigned arguments v s = assigned v s
+row_result same name row arguments v s = if nat_lt (suc (many_values arguments)) (wanted_by row) then held name (and_value arguments v) s else called name arguments v s
 
 -- a primitive with the arguments so far, applied to one more
 abbrev pub prim_application : Comparing → List ℕ → Values → Value → State → Outcome Value

@@ -1,10 +1,7 @@
-pub mod RunState
+pub mod Carried
 pub mod GroundValues
-pub mod FreeNames
-pub mod BasisConstructors
 pub mod GroundPrimitives
 pub mod GroundEvaluation
-pub mod Heights
 pub mod GroundPage
 pub mod RegionStore
 pub mod RegionPrimitives

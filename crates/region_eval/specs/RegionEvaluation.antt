@@ -2,16 +2,20 @@
 -- A boxed value is made in a live region, and an address is followed into a live region only; where the region isn't live, no rule fits.
 -- The live regions and what the regions' numbers stand for are given with the term, and nothing is put into a term: a region is live while the body of
 -- its `LetRegion` is evaluated, for packets too. An effect variable has no part in it.
--- Heights and counts are those of specialised terms: a `LetRegion` uses no height and counts nothing, nor do the closures of instances.
-use Rattle.std.specs.Prelude.{ℕ, zero, suc, ◌+◌, ◌-◌, ◌*◌, ◌==◌, nat_eq, ℤ, Bool, true, false, ◌&&◌, List, [], ◌∷◌, ◌++◌, length, take, Option, Some, None, if◌then◌else◌}
-use Rattle.std.specs.Option.{option_and_then}
+-- Heights and counts are those of specialised terms: a `LetRegion` uses no height and counts nothing, nor do the objects of instances.
+-- What code relies on without a test of its own is tested here, and where it doesn't hold no rule fits: that constructors are of the pattern's datatype,
+-- with or without an argument as the datatype says; that a function has as many regions and effects as are put in; that what is compared has its type.
+-- A `LetRegion` makes those of its regions that a choice names, of which the code of a program has its own.
+use Rattle.std.specs.Prelude.{ℕ, zero, suc, ◌+◌, ◌-◌, ◌*◌, ◌==◌, nat_eq, nat_lt, ℤ, Bool, true, false, not, ◌&&◌, List, [], ◌∷◌, ◌++◌, length, take, Option, Some, None, is_some, if◌then◌else◌}
+use Rattle.std.specs.Option.{option_and_then, option_map, option_map_or}
 use Rattle.std.specs.List.{slice_get}
 use Rattle.std.specs.Str.{bytes_eq}
-use Rattle.sml_syntax.specs.Values.{text_size}
-use Rattle.sml_syntax.specs.Evaluation.{same_int}
+use Rattle.sml_evaluation.specs.Values.{text_size}
+use Rattle.sml_evaluation.specs.Evaluation.{same_int}
 use Rattle.region_syntax.specs.declared.types.Place.{Place}
-use Rattle.region_syntax.specs.declared.specialised.Constructor.{Constructor}
-use Rattle.region_syntax.specs.declared.specialised.Constructor.TheVariants as con
+use Rattle.region_syntax.specs.declared.types.Effect.{Effect}
+use Rattle.sml_syntax.specs.declared.constructor.Constructor.{Constructor}
+use Rattle.sml_syntax.specs.declared.constructor.Constructor.TheVariants as con
 use Rattle.region_syntax.specs.GroundTypes as g
 use Rattle.region_syntax.specs.GroundTypes.{GroundType, GroundTypes}
 use Rattle.region_syntax.specs.GroundTerms.{Datatype}
@@ -19,12 +23,14 @@ use Rattle.region_syntax.specs.RegionTypes as t
 use Rattle.region_syntax.specs.RegionTypes.{RegionType}
 use Rattle.region_syntax.specs.RegionTerms as r
 use Rattle.region_syntax.specs.Erasure.{erased_rules, erased_defs}
-use Rattle.region_syntax.specs.Cost.{meeting, regions_of}
+use Rattle.region_syntax.specs.Cost.{meeting}
 use Rattle.region_syntax.specs.GroundTypes.{with_types}
-use Rattle.region_eval.specs.RunState.{Done, Raised, Over, then_do, handled, counted, storing}
-use Rattle.region_eval.specs.FreeNames.{free_in_rules, function_words, group_words}
-use Rattle.region_eval.specs.RegionStore.{Value, Int, Char, Unit, Con, Address, Env, Regions, Object, Str, Tuple, Applied, Packet, PacketOf, Ref, Closure, Group, Maker, Prim, Store, Around, around_with, State, Outcome, no_rule, found, value_at, bindings_of, serial_of, serial_of_type, replaced, alloc, follow, opened}
-use Rattle.region_eval.specs.RegionPrimitives.{Comparing, bool_value, prim_application, prim_named}
+use Rattle.sml_evaluation.specs.RunState.{Done, Raised, Over, then_do, handled, counted, storing}
+use Rattle.region_syntax.specs.EqualityWays.{Way, Function, all_constant, way_of}
+use Rattle.region_syntax.specs.UsedRegions.{Choice, arguments_of}
+use Rattle.region_syntax.specs.FreeNames.{free_in_rules, function_words, group_words}
+use Rattle.region_eval.specs.RegionStore.{Value, Int, Char, Unit, Con, Address, Env, Regions, Object, Str, Tuple, Applied, Packet, PacketOf, Ref, Closure, Group, Instance, Maker, Prim, Store, Around, around_with, State, Outcome, no_rule, where_it_holds, found, value_at, bindings_of, serial_of, serial_of_type, replaced, alloc, follow, with_region, with_live, opened}
+use Rattle.region_eval.specs.RegionPrimitives.{Inside, inside_of, Comparing, bool_value, prim_application, prim_named}
 
 -- ---- the evaluations of parts
 
@@ -56,10 +62,19 @@ plan_of decs pending body = record { decs = decs; pending = pending; body = body
 abbrev pub Scoping : Type 0
 Scoping = Around → Env → Env → State → r.Rules → Plan → Outcome (Env × List Value)
 
+-- the arguments of a function of several patterns, of which no tuple is made, and a pattern and these
+abbrev pub PartsEvaluator : Type 0
+PartsEvaluator = Around → Env → State → r.Exps → Outcome (List Value)
+
+abbrev pub PartsMatcher : Type 0
+PartsMatcher = Around → State → r.Pat → List Value → Outcome (Option Env)
+
 -- the evaluations at one height
 pub record Level : Type 0 where
   pub exp : Evaluator
+  pub parts : PartsEvaluator
   pub pat : Matcher
+  pub spread : PartsMatcher
   pub same : Comparing
   pub scope : Scoping
 
@@ -128,17 +143,30 @@ pair_match part around p next (Tuple (head ∷ tail ∷ [])) s = then_do (part a
 pair_match part around p next _ s = no_rule s
 
 abbrev pub cell_match : Matcher → Around → r.Pat → (State → Value → Outcome (Option Env)) → Object → State → Outcome (Option Env)
-cell_match part around p next (Applied d i cell) s = follow around.live cell (pair_match part around p next) s
+cell_match part around p next (Applied d i cell) s = where_it_holds (d == 1 && i == 1) (follow around.live cell (pair_match part around p next)) s
 cell_match part around p next _ s = no_rule s
 
 -- the pattern `[p1, .., pn]`
 abbrev pub list_match : Matcher → Around → State → r.Pats → Value → Outcome (Option Env)
-list_match part around s r.no_pats (Con d i) = fits_if true s
+list_match part around s r.no_pats (Con d i) = where_it_holds (d == 1 && i == 0) (fits_if true) s
 list_match part around s r.no_pats (Address q i) = fits_if false s
-list_match part around s (r.pats p ps) (Con d i) = fits_if false s
+list_match part around s (r.pats p ps) (Con d i) = where_it_holds (d == 1 && i == 0) (fits_if false) s
 list_match part around s (r.pats p ps) (Address q i) =
     follow around.live (Address q i) (cell_match part around p (λ s1 tail. list_match part around s1 ps tail)) s
 list_match part around s _ _ = no_rule s
+
+-- by the program's datatypes: a constructor without an argument and one with an argument, and a datatype that has one of these
+abbrev pub takes_argument : List Datatype → ℕ → ℕ → Option Bool
+takes_argument datatypes d i = option_and_then (λ (t : Datatype). option_map (λ c. is_some c.1) (slice_get t.constructors i)) (slice_get datatypes d)
+
+abbrev pub is_constant : List Datatype → ℕ → ℕ → Bool
+is_constant datatypes d i = option_map_or not (takes_argument datatypes d i) false
+
+abbrev pub is_applied : List Datatype → ℕ → ℕ → Bool
+is_applied datatypes d i = option_map_or (λ b. b) (takes_argument datatypes d i) false
+
+abbrev pub has_applied : List Datatype → ℕ → Bool
+has_applied datatypes d = option_map_or (λ (t : Datatype). not (all_constant t.constructors)) (slice_get datatypes d) false
 
 -- a constructor without an argument: an exception's packet is followed
 abbrev pub packet_match : ℕ → Object → State → Outcome (Option Env)
@@ -147,21 +175,24 @@ packet_match n (PacketOf m v) s = fits_if (n == m) s
 packet_match n _ s = no_rule s
 
 abbrev pub constructor_match : Around → Constructor → Value → State → Outcome (Option Env)
-constructor_match around (con.Data d i) (Con e j) s = fits_if (i == j) s
-constructor_match around (con.Data d i) (Address q j) s = fits_if false s
+constructor_match around (con.Data d i) (Con e j) s =
+    where_it_holds (d == e && is_constant around.datatypes d i && is_constant around.datatypes d j) (fits_if (i == j)) s
+constructor_match around (con.Data d i) (Address q j) s = where_it_holds (is_constant around.datatypes d i && has_applied around.datatypes d) (fits_if false) s
 constructor_match around (con.Exn n) (Address q j) s = follow around.live (Address q j) (packet_match n) s
 constructor_match around _ _ s = no_rule s
 
 -- a constructor on its argument; that of `ref` is what the reference holds at this moment
 abbrev pub argument_match : Matcher → Around → Constructor → r.Pat → Object → State → Outcome (Option Env)
-argument_match part around (con.Data d i) p (Applied e j v) s = if i == j then part around s p v else fits_if false s
-argument_match part around (con.Exn n) p (Packet m) s = fits_if false s
+argument_match part around (con.Data d i) p (Applied e j v) s =
+    where_it_holds (d == e && is_applied around.datatypes d i && is_applied around.datatypes d j) (λ s1. if i == j then part around s1 p v else fits_if false s1) s
+argument_match part around (con.Exn n) p (Packet m) s = where_it_holds (not (n == m)) (fits_if false) s
 argument_match part around (con.Exn n) p (PacketOf m v) s = if n == m then part around s p v else fits_if false s
 argument_match part around con.Ref p (Ref v) s = part around s p v
 argument_match part around _ p _ s = no_rule s
 
 abbrev pub applied_match : Matcher → Around → State → Constructor → r.Pat → Value → Outcome (Option Env)
-applied_match part around s (con.Data d i) p (Con e j) = fits_if false s
+applied_match part around s (con.Data d i) p (Con e j) =
+    where_it_holds (d == e && is_applied around.datatypes d i && is_constant around.datatypes d j) (fits_if false) s
 applied_match part around s c p v = follow around.live v (argument_match part around c p) s
 
 -- a constant; a text of a pattern is made when it is tried
@@ -180,6 +211,11 @@ text_match bytes _ s = no_rule s
 abbrev pub tuple_match : Matcher → Around → r.Pats → Object → State → Outcome (Option Env)
 tuple_match part around ps (Tuple vs) s = each_match part around s ps vs
 tuple_match part around ps _ s = no_rule s
+
+-- a pattern of the arguments of a function of several patterns is that of their tuple
+abbrev pub spread_result : Matcher → PartsMatcher
+spread_result part around s (r.pat a (r.TuplePat ps)) vs = each_match part around s ps vs
+spread_result part around s _ vs = no_rule s
 
 -- a pattern by its form
 abbrev pub pat_result : Matcher → Around → State → r.Pat → Value → Outcome (Option Env)
@@ -207,10 +243,11 @@ abbrev pub and_same : Bool → (State → Outcome Bool) → State → Outcome Bo
 and_same true next s = next s
 and_same false next s = Done false s
 
-abbrev pub each_same : Comparing → Around → GroundTypes → List Value → List Value → State → Outcome Bool
-each_same part around g.no_types [] [] s = Done true s
-each_same part around (g.types a ts) (v ∷ vs) (w ∷ ws) s = then_do (part around a v w s) (λ b s1. and_same b (each_same part around ts vs ws) s1)
-each_same part around _ _ _ s = no_rule s
+abbrev pub each_same : Comparing → Around → Inside → GroundTypes → List Value → List Value → State → Outcome Bool
+each_same part around inside g.no_types [] [] s = Done true s
+each_same part around inside (g.types a ts) (v ∷ vs) (w ∷ ws) s =
+    then_do (part around inside a v w s) (λ b s1. and_same b (each_same part around inside ts vs ws) s1)
+each_same part around inside _ _ _ s = no_rule s
 
 -- what two addresses lead to
 abbrev pub both_followed : Around → Value → Value → (Object → Object → State → Outcome Bool) → State → Outcome Bool
@@ -220,21 +257,27 @@ abbrev pub texts_same : Object → Object → State → Outcome Bool
 texts_same (Str a) (Str b) s = Done (bytes_eq a b) s
 texts_same _ _ s = no_rule s
 
-abbrev pub tuples_same : Comparing → Around → GroundTypes → Object → Object → State → Outcome Bool
-tuples_same part around ts (Tuple vs) (Tuple ws) s = each_same part around ts vs ws s
-tuples_same part around ts _ _ s = no_rule s
+-- tuples: a tuple in a tuple isn't taken apart
+abbrev pub tuples_same : Comparing → Around → Option GroundType → GroundTypes → Object → Object → State → Outcome Bool
+tuples_same part around own ts (Tuple vs) (Tuple ws) s = each_same part around (inside_of own false) ts vs ws s
+tuples_same part around own ts _ _ s = no_rule s
 
-abbrev pub arguments_same : Comparing → Around → ℕ → GroundTypes → Object → Object → State → Outcome Bool
-arguments_same part around n ts (Applied d i v) (Applied e j w) s =
-    if i == j then found (λ a s1. part around a v w s1) (argument_type around.datatypes n ts i) s else Done false s
-arguments_same part around n ts _ _ s = no_rule s
+-- constructors with an argument, and the values of a datatype; a tuple that is an argument may be taken apart
+abbrev pub arguments_same : Comparing → Around → Option GroundType → ℕ → GroundTypes → Object → Object → State → Outcome Bool
+arguments_same part around own n ts (Applied d i v) (Applied e j w) s =
+    where_it_holds (d == n && e == n && is_applied around.datatypes n i && is_applied around.datatypes n j)
+    (λ s1. if i == j then found (λ a s2. part around (inside_of own true) a v w s2) (argument_type around.datatypes n ts i) s1 else Done false s1) s
+arguments_same part around own n ts _ _ s = no_rule s
 
-abbrev pub data_same : Comparing → Around → ℕ → GroundTypes → Value → Value → State → Outcome Bool
-data_same part around n ts (Con d i) (Con e j) s = Done (i == j) s
-data_same part around n ts (Con d i) (Address q j) s = Done false s
-data_same part around n ts (Address p i) (Con e j) s = Done false s
-data_same part around n ts (Address p i) (Address q j) s = both_followed around (Address p i) (Address q j) (arguments_same part around n ts) s
-data_same part around n ts _ _ s = no_rule s
+abbrev pub constant_of : Around → ℕ → ℕ → ℕ → Bool
+constant_of around n d i = d == n && is_constant around.datatypes n i
+
+abbrev pub data_same : Comparing → Around → Option GroundType → ℕ → GroundTypes → Value → Value → State → Outcome Bool
+data_same part around own n ts (Con d i) (Con e j) s = where_it_holds (constant_of around n d i && constant_of around n e j) (λ s1. Done (i == j) s1) s
+data_same part around own n ts (Con d i) (Address q j) s = where_it_holds (constant_of around n d i) (λ s1. Done false s1) s
+data_same part around own n ts (Address p i) (Con e j) s = where_it_holds (constant_of around n e j) (λ s1. Done false s1) s
+data_same part around own n ts (Address p i) (Address q j) s = both_followed around (Address p i) (Address q j) (arguments_same part around own n ts) s
+data_same part around own n ts _ _ s = no_rule s
 
 abbrev pub ints_same : Value → Value → State → Outcome Bool
 ints_same (Int a) (Int b) s = Done (same_int a b) s
@@ -244,20 +287,38 @@ abbrev pub chars_same : Value → Value → State → Outcome Bool
 chars_same (Char a) (Char b) s = Done (a == b) s
 chars_same _ _ s = no_rule s
 
--- references are equal where they are one, and aren't followed
-abbrev pub references_same : Value → Value → State → Outcome Bool
-references_same (Address p i) (Address q j) s = Done (nat_eq p q && nat_eq i j) s
-references_same _ _ s = no_rule s
+abbrev pub units_same : Value → Value → State → Outcome Bool
+units_same Unit Unit s = Done true s
+units_same _ _ s = no_rule s
 
-abbrev pub same_result : Comparing → Around → GroundType → Value → Value → State → Outcome Bool
-same_result part around g.Int v w s = ints_same v w s
-same_result part around g.Char v w s = chars_same v w s
-same_result part around g.Unit v w s = Done true s
-same_result part around g.Str v w s = both_followed around v w texts_same s
-same_result part around (g.Tuple ts) v w s = both_followed around v w (tuples_same part around ts) s
-same_result part around (g.Data n ts) v w s = data_same part around n ts v w s
-same_result part around (g.Ref a) v w s = references_same v w s
-same_result part around _ v w s = no_rule s
+-- references are equal where they are one
+abbrev pub one_address : Value → Value → Bool
+one_address (Address p i) (Address q j) = nat_eq p q && nat_eq i j
+one_address _ _ = false
+
+abbrev pub references_same : Value → Value → Object → Object → State → Outcome Bool
+references_same v w (Ref x) (Ref y) s = Done (one_address v w) s
+references_same v w _ _ s = no_rule s
+
+-- two values of a type, in the function of equality of a type, if in one
+abbrev pub compared : Comparing → Around → Option GroundType → GroundType → Value → Value → State → Outcome Bool
+compared part around own g.Int v w s = ints_same v w s
+compared part around own g.Char v w s = chars_same v w s
+compared part around own g.Unit v w s = units_same v w s
+compared part around own g.Str v w s = both_followed around v w texts_same s
+compared part around own (g.Tuple ts) v w s = both_followed around v w (tuples_same part around own ts) s
+compared part around own (g.Data n ts) v w s = data_same part around own n ts v w s
+compared part around own (g.Ref a) v w s = both_followed around v w (references_same v w) s
+compared part around own _ v w s = no_rule s
+
+-- As code compares them: the closure of a function of equality lies in a region of its own, which is live while the function runs.
+abbrev pub compared_by : Way → Comparing → Around → Option GroundType → GroundType → Value → Value → State → Outcome Bool
+compared_by Function part around own a v w s =
+    compared part (with_live (suc s.store.made) around) (Some a) a v w (storing (with_region s.store) s)
+compared_by _ part around own a v w s = compared part around own a v w s
+
+abbrev pub same_result : Comparing → Comparing
+same_result part around inside a v w s = compared_by (way_of around.datatypes inside.own inside.apart a) part around inside.own a v w s
 
 -- ---- matches and applications
 
@@ -270,10 +331,14 @@ abbrev pub chosen : Level → Around → Env → r.Exp → Option Env → (State
 chosen low around env body None otherwise s = otherwise s
 chosen low around env body (Some more) otherwise s = low.exp around (more ++ env) s body
 
+-- on what patterns are tried
+abbrev pub rules_by : {V : Type 0} → (Around → State → r.Pat → V → Outcome (Option Env)) → Level → Around → Env → State → r.Rules → V → (State → Outcome Value) → Outcome Value
+rules_by tried low around env s r.no_rules v otherwise = otherwise s
+rules_by tried low around env s (r.rules p e rs) v otherwise =
+    then_do (tried around (counted 1 s) p v) (λ more s1. chosen low around env e more (λ s2. rules_by tried low around env s2 rs v otherwise) s1)
+
 abbrev pub rules_result : Level → Around → Env → State → r.Rules → Value → (State → Outcome Value) → Outcome Value
-rules_result low around env s r.no_rules v otherwise = otherwise s
-rules_result low around env s (r.rules p e rs) v otherwise =
-    then_do (low.pat around (counted 1 s) p v) (λ more s1. chosen low around env e more (λ s2. rules_result low around env s2 rs v otherwise) s1)
+rules_result low around env s rs v otherwise = rules_by low.pat low around env s rs v otherwise
 
 -- no rule fits: `Match`
 abbrev pub match_failed : {A : Type 0} → Around → State → Outcome A
@@ -292,11 +357,28 @@ constructed live (con.Data d i) p v s = alloc live p (Applied d i v) (counted 2 
 constructed live (con.Exn n) p v s = alloc live 1 (PacketOf n v) (counted 2 s)
 constructed live con.Ref p v s = alloc live p (Ref v) (counted 1 s)
 
--- a function applied to its argument
+-- the regions that a function of a group binds, with those that an instance puts in
+abbrev pub bound_regions : List ℕ → List ℕ → Regions → Regions
+bound_regions (n ∷ ns) (p ∷ ps) regions = (n, p) ∷ bound_regions ns ps regions
+bound_regions _ _ regions = regions
+
+-- a function, where the regions stand for these serials
+abbrev pub function_run : Level → Around → r.Rules → Regions → Env → Value → State → Outcome Value
+function_run low around rs regions env v s = rules_result low (around_with around regions) env s rs v (match_failed around)
+
+-- a function of a group, with as many regions and effects as it binds
+abbrev pub instance_run : Level → Around → List ℕ → ℕ → Value → Object → State → Outcome Value
+instance_run low around serials effects v (Group bound many rs regions env) s =
+    where_it_holds (length bound == length serials && many == effects) (function_run low around rs (bound_regions bound serials regions) env v) s
+instance_run low around serials effects v _ s = no_rule s
+
+-- A function applied to its argument. An instance leads to the group's function, which is followed too; one without regions is applied as it is.
 abbrev pub application : Level → Around → Value → Object → State → Outcome Value
 application low around v (Prim name a serials arguments) s = prim_application low.same around name a serials arguments v s
 application low around v (Maker c p) s = constructed around.live c p v s
-application low around v (Closure rs regions env) s = rules_result low (around_with around regions) env s rs v (match_failed around)
+application low around v (Closure rs regions env) s = function_run low around rs regions env v s
+application low around v (Group bound many rs regions env) s = where_it_holds (length bound == 0) (function_run low around rs regions env v) s
+application low around v (Instance f serials effects) s = follow around.live f (instance_run low around serials effects v) s
 application low around v _ s = no_rule s
 
 -- ---- groups of functions
@@ -316,30 +398,36 @@ held_by rs env = bindings_of (free_in_rules (erased_rules rs)) env
 abbrev pub group_made : Around → Env → Env → r.Defs → State → Outcome Env
 group_made around env addresses r.no_defs s = Done addresses s
 group_made around env addresses (r.defs head rs ds) s =
-    then_do (alloc around.live (serial_of around.regions head.at) (Group head.regions rs around.regions (held_by rs (addresses ++ env))) s) (λ v s1.
+    then_do (alloc around.live (serial_of around.regions head.at) (Group head.regions (length head.effects) rs around.regions (held_by rs (addresses ++ env))) s) (λ v s1.
     group_made around env addresses ds s1)
 
 abbrev pub group_bound : Around → Env → r.Defs → State → Outcome Env
 group_bound around env group s =
     group_made around env (group_addresses around (λ p. length (s.store.objects p)) group) group s
 
--- the regions that a function of a group binds, with those of the instance
-abbrev pub bound_regions : Regions → Regions → List ℕ → List Place → Regions
-bound_regions outer regions (n ∷ ns) (p ∷ ps) = (n, serial_of outer p) ∷ bound_regions outer regions ns ps
-bound_regions outer regions _ _ = regions
+-- the serials of places
+abbrev pub serials_of : Regions → List Place → List ℕ
+serials_of regions [] = []
+serials_of regions (p ∷ ps) = serial_of regions p ∷ serials_of regions ps
 
--- the closure of an instance lies at the place of its type
-abbrev pub instance_result : Around → RegionType → List Place → Object → State → Outcome Value
-instance_result around a places (Group bound rs regions env) s =
-    alloc around.live (serial_of_type around.regions a) (Closure rs (bound_regions around.regions regions bound places) env) s
-instance_result around a places _ s = no_rule s
+-- An instance lies at the place of its type and holds where the group's function lies; one without places is that function itself.
+abbrev pub instance_result : Around → RegionType → List Place → List Effect → Value → State → Outcome Value
+instance_result around a [] effects f s = Done f s
+instance_result around a (p ∷ ps) effects f s =
+    alloc around.live (serial_of_type around.regions a) (Instance f (serials_of around.regions (p ∷ ps)) (length effects)) s
 
 -- ---- expressions
 
 -- by a bool
 abbrev pub by_bool : Value → (State → Outcome Value) → (State → Outcome Value) → State → Outcome Value
-by_bool (Con d i) first second s = if i == 1 then first s else second s
+by_bool (Con d i) first second s = where_it_holds (d == 0 && nat_lt i 2) (λ s1. if i == 1 then first s1 else second s1) s
 by_bool _ first second s = no_rule s
+
+-- a match: on the arguments of a function of several patterns it makes no tuple of them
+abbrev pub case_result : Level → Around → Env → State → Option r.Exps → r.Exp → r.Rules → Outcome Value
+case_result low around env s None e rs = then_do (low.exp around env s e) (λ v s1. rules_result low around env s1 rs v (match_failed around))
+case_result low around env s (Some es) e rs =
+    then_do (low.parts around env s es) (λ vs s1. rules_by low.spread low around env s1 rs vs (match_failed around))
 
 -- an expression by its form, the parts at the lower level
 abbrev pub form_result : Level → Around → Env → State → RegionType → r.Form → Outcome Value
@@ -360,7 +448,7 @@ form_result low around env s a (r.App f e) =
 form_result low around env s a (r.Let ds es) = then_do (low.scope around env env s r.no_rules (plan_of ds [] es)) (λ x s1. last_value x.1 s1)
 form_result low around env s a (r.Fn rs at) =
     alloc around.live (serial_of around.regions at) (Closure rs around.regions (held_by rs env)) (counted (function_words (erased_rules rs)) s)
-form_result low around env s a (r.Case e rs) = then_do (low.exp around env s e) (λ v s1. rules_result low around env s1 rs v (match_failed around))
+form_result low around env s a (r.Case e rs) = case_result low around env s (arguments_of e rs) e rs
 form_result low around env s a (r.Handle e rs) = handled (low.exp around env s e) (λ p s1. rules_result low around env s1 rs p (λ s2. Raised p s2))
 form_result low around env s a (r.Raise e) = then_do (low.exp around env s e) (λ p s1. Raised p s1)
 form_result low around env s a (r.If x y z) =
@@ -377,7 +465,7 @@ form_result low around env s a (r.LetRegion rs e) = no_rule s
 form_result low around env s a (r.Fix ds e) =
     then_do (low.scope around env env s r.no_rules (plan_of (r.funs ds r.no_decs) [] (r.exps e r.no_exps))) (λ x s1. last_value x.1 s1)
 form_result low around env s a (r.Inst name places effects) =
-    found (λ v s1. follow around.live v (instance_result around a places) s1) (value_at name env) s
+    found (λ v s1. instance_result around a places effects v s1) (value_at name env) s
 
 -- ---- declarations
 
@@ -455,22 +543,30 @@ over_scope around outer env s r.no_rules plan =
 abbrev pub nothing : Level
 nothing = record {
   exp = λ around env s e. Over s;
+  parts = λ around env s es. Over s;
   pat = λ around s p v. Over s;
-  same = λ around a v w s. Over s;
+  spread = λ around s p vs. Over s;
+  same = λ around inside a v w s. Over s;
   scope = over_scope;
 }
 
--- At the height above another. Fresh regions live while the body is evaluated, at the same height; those that don't occur in it aren't made.
+-- At the height above another. Fresh regions live while the body is evaluated, at the same height; those that the choice doesn't name aren't made.
 abbrev pub exp_above : Level → Evaluator
 exp_above low around env s (r.exp a (r.LetRegion rs e)) =
-    let made : Around × Store = opened (meeting rs (regions_of e)) around s.store in exp_above low made.0 env (storing made.1 s) e
+    let made : Around × Store = opened (meeting rs (around.choice e)) around s.store in exp_above low made.0 env (storing made.1 s) e
 exp_above low around env s (r.exp a form) = form_result low around env (counted 1 s) a form
+
+-- parts count as the tuple of them
+abbrev pub parts_above : Level → PartsEvaluator
+parts_above low around env s es = then_do (each_value low.exp around env (counted 1 s) es) (λ vs s1. Done vs (counted (length vs) s1))
 
 abbrev pub above : Level → Level
 above low = record {
   exp = exp_above low;
+  parts = parts_above low;
   pat = λ around s p v. pat_result low.pat around (counted 1 s) p v;
-  same = λ around a v w s. same_result low.same around a v w (counted 1 s);
+  spread = λ around s p vs. spread_result low.pat around (counted 1 s) p vs;
+  same = λ around inside a v w s. same_result low.same around inside a v w (counted 1 s);
   scope = scope_result (exp_above low) low;
 }
 
@@ -496,5 +592,5 @@ eval_decs n around env s decs = then_do ((level n).scope around env env s r.no_r
 abbrev pub start_store : Store
 start_store = record { objects = λ p. []; made = 1; total = 0 }
 
-abbrev pub start_around : List Datatype → Around
-start_around datatypes = record { datatypes = datatypes; live = 1 ∷ []; regions = [] }
+abbrev pub start_around : List Datatype → Choice → Around
+start_around datatypes choice = record { datatypes = datatypes; choice = choice; live = 1 ∷ []; regions = [] }

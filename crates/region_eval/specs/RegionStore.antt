@@ -1,18 +1,19 @@
 -- The values of region terms, and the store in which boxed ones lie. Tofte and Talpin's region calculus, stores; numbers are of this project.
-use Rattle.std.specs.Prelude.{ℕ, suc, ℤ, nat_eq, List, [], ◌∷◌, ◌++◌, length, set, slice_get, Option, Some, None, if◌then◌else◌}
+use Rattle.std.specs.Prelude.{ℕ, suc, ℤ, nat_eq, Bool, true, false, List, [], ◌∷◌, ◌++◌, length, set, slice_get, Option, Some, None, if◌then◌else◌}
 use Rattle.std.specs.Str.{bytes_eq}
-use Rattle.sml_syntax.specs.declared.datum.Desc as datum
-use Rattle.sml_syntax.specs.declared.cache.CacheId.{CacheId}
+use Rattle.web_data.specs.declared.datum.Desc as datum
+use Rattle.web_data.specs.declared.cache.CacheId.{CacheId}
 use Rattle.region_syntax.specs.declared.types.Place.{Place}
 use Rattle.region_syntax.specs.declared.types.Place.TheVariants as place
-use Rattle.region_syntax.specs.declared.specialised.Constructor.{Constructor}
+use Rattle.sml_syntax.specs.declared.constructor.Constructor.{Constructor}
 use Rattle.region_syntax.specs.GroundTypes.{GroundType}
 use Rattle.region_syntax.specs.GroundTerms.{Datatype}
 use Rattle.region_syntax.specs.RegionTypes as t
 use Rattle.region_syntax.specs.RegionTypes.{RegionType}
 use Rattle.region_syntax.specs.RegionTerms as r
 use Rattle.region_syntax.specs.Effects.{is_number_in, place_of}
-use Rattle.region_eval.specs.RunState.{RunState, Ending, Done, NoRule, storing}
+use Rattle.region_syntax.specs.UsedRegions.{Choice}
+use Rattle.sml_evaluation.specs.RunState.{RunState, Ending, Done, NoRule, storing}
 
 -- a value, which stands by itself, or lies at an address: the serial of its region, and its place among the region's objects
 pub data Value : Type 0 where
@@ -44,8 +45,11 @@ pub data Object : Type 0 where
   Ref : Value → Object
   -- a function: its rules, and what the regions and the names free in it stand for
   Closure : r.Rules → Regions → Env → Object
-  -- a function of a group: the regions that it binds, its rules, and what the regions and the names free in it stand for, those of the group too
-  Group : List ℕ → r.Rules → Regions → Env → Object
+  -- a function of a group: the regions and how many effect variables it binds, its rules, and what the regions and the names free in it stand for,
+  -- those of the group too
+  Group : List ℕ → ℕ → r.Rules → Regions → Env → Object
+  -- an instance of such a function: where the function lies, the regions that are put in, and how many effects are
+  Instance : Value → List ℕ → ℕ → Object
   -- a constructor that stands for a function, and the region in which it makes values
   Maker : Constructor → ℕ → Object
   -- a primitive by its name, its type, the regions of what it gives at each further argument, and the arguments so far
@@ -58,14 +62,16 @@ pub record Store : Type 0 where
   pub made : ℕ
   pub total : ℕ
 
--- what stands around a term: the datatypes of the program, the serials of the live regions, and what the regions' numbers stand for
+-- what stands around a term: the datatypes of the program, which regions a `LetRegion` makes, the serials of the live regions, and what the regions'
+-- numbers stand for
 pub record Around : Type 0 where
   pub datatypes : List Datatype
+  pub choice : Choice
   pub live : List ℕ
   pub regions : Regions
 
 abbrev pub around_with : Around → Regions → Around
-around_with a regions = record { datatypes = a.datatypes; live = a.live; regions = regions }
+around_with a regions = record a { regions = regions }
 
 abbrev pub State : Type 0
 State = RunState Store
@@ -79,6 +85,11 @@ Outcome A = Ending NoneFits Value Store A
 
 abbrev pub no_rule : {A : Type 0} → State → Outcome A
 no_rule s = NoRule none_fits s
+
+-- what code relies on: where it doesn't hold, no rule fits
+abbrev pub where_it_holds : {A : Type 0} → Bool → (State → Outcome A) → State → Outcome A
+where_it_holds true f s = f s
+where_it_holds false f s = no_rule s
 
 abbrev pub found : {A B : Type 0} → (A → State → Outcome B) → Option A → State → Outcome B
 found f None s = no_rule s
@@ -100,7 +111,7 @@ abbrev pub bindings_of : List (List ℕ) → Env → Env
 bindings_of [] env = []
 bindings_of (name ∷ names) env = with_value name (value_at name env) (bindings_of names env)
 
--- a region that nothing around binds is the global one
+-- a region that nothing around binds, or that isn't made, is the global one
 abbrev pub serial_at : ℕ → Regions → ℕ
 serial_at n [] = 1
 serial_at n (b ∷ regions) = if nat_eq b.0 n then b.1 else serial_at n regions
@@ -156,9 +167,14 @@ follow live v f s = found f (followed live v s.store) s
 abbrev pub object_set : ℕ → ℕ → Object → Store → Store
 object_set p i o store = record { objects = replaced p (set (store.objects p) i o) store.objects; made = store.made; total = store.total }
 
--- fresh regions, which are empty, for these numbers
+-- a fresh region, which is empty: its serial is the newest
+abbrev pub with_region : Store → Store
+with_region store = record { objects = replaced (suc store.made) [] store.objects; made = suc store.made; total = store.total }
+
+abbrev pub with_live : ℕ → Around → Around
+with_live p a = record a { live = p ∷ a.live }
+
+-- fresh regions for these numbers
 abbrev pub opened : List ℕ → Around → Store → Around × Store
 opened [] a store = (a, store)
-opened (n ∷ ns) a store =
-    opened ns (record { datatypes = a.datatypes; live = suc store.made ∷ a.live; regions = (n, suc store.made) ∷ a.regions })
-    (record { objects = replaced (suc store.made) [] store.objects; made = suc store.made; total = store.total })
+opened (n ∷ ns) a store = opened ns (with_live (suc store.made) (around_with a ((n, suc store.made) ∷ a.regions))) (with_region store)

@@ -1,6 +1,5 @@
 -- A `val` without bindings is refused.
-use Rattle.std.proofs.Common.{◌≡◌, Bool, true, false, List, ◌∷◌, ◌++◌, refl}
-use Rattle.std.specs.Prelude.{◌&&◌}
+use Rattle.std.proofs.Common.{◌≡◌, false, refl}
 use Rattle.region_syntax.specs.GroundTerms as g
 use Rattle.region_syntax.specs.GroundTyping as ground
 use Rattle.region_syntax.specs.RegionTerms as r
@@ -16,11 +15,6 @@ pub no_region_val : (c : Context) (ds : r.Decs) → region.are_decs c (r.vals r.
 unfolding region.are_decs region.some_rules
 no_region_val c ds = refl
 
-fails : (a b x y z w : Bool) (rest : List Bool) → all_hold ((a && b && false && x && y && z && w) ∷ rest) ≡ false
-fails true true x y z w rest = refl
-fails true false x y z w rest = refl
-fails false b x y z w rest = refl
-
-pub no_val_item : (once : Bool) (tables : Tables) (c : Context) (ds : r.Decs) → all_hold (item_answers once tables c (r.vals r.no_rules ds)) ≡ false
+pub no_val_item : (tables : Tables) (c : Context) (ds : r.Decs) → all_hold (item_answers tables c (r.vals r.no_rules ds)) ≡ false
 unfolding region.some_rules item_answers
-no_val_item once tables c ds = fails once _ _ _ _ _ (region.bindings_answers tables c r.no_rules ++ item_answers once tables (region.bound_by_rules r.no_rules ++ c) ds)
+no_val_item tables c ds = refl

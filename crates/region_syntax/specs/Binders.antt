@@ -121,9 +121,10 @@ are_distinct (n ∷ ns) = if is_number_in n ns then false else are_distinct ns
 abbrev pub bind_once : Binders → Bool
 bind_once b = are_distinct b.regions && are_distinct b.effects
 
+unfoldable pub is_nothing : List ℕ → Bool
+is_nothing [] = true
+is_nothing _ = false
+
 -- each region that occurs is bound around
 unfoldable pub all_are_bound : Binders → Bool
-all_are_bound b = is_nothing b.loose where
-  is_nothing : List ℕ → Bool
-  is_nothing [] = true
-  is_nothing _ = false
+all_are_bound b = is_nothing b.loose

@@ -1,5 +1,6 @@
 -- Places and effects as sets, and what stands in a type. Tofte and Talpin's region calculus: free regions, substitution; the rest is of this project.
 use Rattle.std.specs.Prelude.{ℕ, zero, suc, nat_eq, Bool, true, false, ◌&&◌, if◌then◌else◌, List, [], ◌∷◌, ◌++◌, Option, Some, None, map}
+use Rattle.std.specs.Option.{option_map}
 use Rattle.std.specs.List.{list_all}
 use Rattle.region_syntax.specs.declared.types.Place.{Place}
 use Rattle.region_syntax.specs.declared.types.Place.TheVariants as place
@@ -129,11 +130,12 @@ place_of (t.Cache p a b) = Some p
 place_of _ = None
 
 -- making or following a value of a type
+abbrev pub on_some : Option Place → Effect
+on_some None = no_effect
+on_some (Some p) = on p
+
 unfoldable pub on_type : RegionType → Effect
-on_type a = on_some (place_of a) where
-  on_some : Option Place → Effect
-  on_some None = no_effect
-  on_some (Some p) = on p
+on_type a = on_some (place_of a)
 
 -- the places and effects that an instance puts in
 abbrev pub Instance : Type 0
@@ -182,6 +184,11 @@ type_at t.no_types n = None
 type_at (t.types x xs) zero = Some x
 type_at (t.types x xs) (suc n) = type_at xs n
 
+-- what a function makes of two things, where both are there
+abbrev pub of_both : {A B C : Type 0} → (A → B → C) → Option A → Option B → Option C
+of_both f (Some a) (Some b) = Some (f a b)
+of_both f _ _ = None
+
 -- A type that a datatype's declaration names, at arguments, a place and an effect: all its boxed parts other than the arguments
 -- lie there, and its functions have this effect. Below a cache or a description stand types without places.
 unfoldable mutual
@@ -191,29 +198,14 @@ unfoldable mutual
   placed xs p e g.Str = Some (t.Str p)
   placed xs p e g.Unit = Some t.Unit
   placed xs p e g.Exn = Some t.Exn
-  placed xs p e (g.Tuple ts) = tuple_of (placed_each xs p e ts) where
-    tuple_of : Option RegionTypes → Option RegionType
-    tuple_of None = None
-    tuple_of (Some ys) = Some (t.Tuple p ys)
-  placed xs p e (g.Arrow a b) = arrow_of (placed xs p e a) (placed xs p e b) where
-    arrow_of : Option RegionType → Option RegionType → Option RegionType
-    arrow_of (Some y) (Some z) = Some (t.Arrow p y e z)
-    arrow_of _ _ = None
-  placed xs p e (g.Data n ts) = data_of (placed_each xs p e ts) where
-    data_of : Option RegionTypes → Option RegionType
-    data_of None = None
-    data_of (Some ys) = Some (t.Data n ys p e)
-  placed xs p e (g.Ref a) = ref_of (placed xs p e a) where
-    ref_of : Option RegionType → Option RegionType
-    ref_of None = None
-    ref_of (Some y) = Some (t.Ref p y)
+  placed xs p e (g.Tuple ts) = option_map (t.Tuple p) (placed_each xs p e ts)
+  placed xs p e (g.Arrow a b) = of_both (λ y z. t.Arrow p y e z) (placed xs p e a) (placed xs p e b)
+  placed xs p e (g.Data n ts) = option_map (λ ys. t.Data n ys p e) (placed_each xs p e ts)
+  placed xs p e (g.Ref a) = option_map (t.Ref p) (placed xs p e a)
   placed xs p e (g.Cache a b) = Some (t.Cache p (with_types (erased_types xs) a) (with_types (erased_types xs) b))
   placed xs p e (g.Desc a) = Some (t.Desc (with_types (erased_types xs) a))
   placed xs p e (g.Var n) = type_at xs n
 
   pub placed_each : RegionTypes → Place → Effect → GroundTypes → Option RegionTypes
   placed_each xs p e g.no_types = Some t.no_types
-  placed_each xs p e (g.types y ys) = more_of (placed xs p e y) (placed_each xs p e ys) where
-    more_of : Option RegionType → Option RegionTypes → Option RegionTypes
-    more_of (Some z) (Some zs) = Some (t.types z zs)
-    more_of _ _ = None
+  placed_each xs p e (g.types y ys) = of_both t.types (placed xs p e y) (placed_each xs p e ys)

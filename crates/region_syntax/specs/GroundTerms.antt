@@ -2,7 +2,7 @@
 use Rattle.std.specs.Prelude.{ℕ, ℤ, List, [], ◌∷◌, Option, Some, None, map}
 use Rattle.region_syntax.specs.declared.types.MTy.{MTy}
 use Rattle.region_syntax.specs.declared.types.MData.{MData}
-use Rattle.region_syntax.specs.declared.specialised.Constructor.{Constructor}
+use Rattle.sml_syntax.specs.declared.constructor.Constructor.{Constructor}
 use Rattle.region_syntax.specs.declared.specialised.MPat.{MPat}
 use Rattle.region_syntax.specs.declared.specialised.MPatForm.{MPatForm}
 use Rattle.region_syntax.specs.declared.specialised.MPatForm.TheOpen.{MPatForm-F, MPat-F}
@@ -218,8 +218,9 @@ ground_bind = fold-MBind Dec Form Piece (Pat × Exp) (List ℕ × List (Pat × E
 unfoldable pub ground_def : MDef → List ℕ × List (Pat × Exp)
 ground_def = fold-MDef Dec Form Piece (Pat × Exp) (List ℕ × List (Pat × Exp)) Exp (Pat × Exp) dec_layer form_layer piece_layer bind_layer def_layer exp_layer rule_layer
 
--- a datatype: how many parameters it has, and its constructors
+-- a datatype: the number of the declaration that it stands in, how many parameters it has, and its constructors
 pub record Datatype : Type 0 where
+  pub declaration : ℕ
   pub params : ℕ
   pub constructors : List (List ℕ × Option GroundType)
 
@@ -228,7 +229,7 @@ ground_argument None = None
 ground_argument (Some t) = Some (ground_type t)
 
 abbrev pub ground_datatype : MData → Datatype
-ground_datatype d = record { params = d.params; constructors = map (λ c. (c.0, ground_argument c.1)) d.cons }
+ground_datatype d = record { declaration = d.declaration; params = d.params; constructors = map (λ c. (c.0, ground_argument c.1)) d.cons }
 
 -- an exception with the type of its argument, if any
 unfoldable pub ground_exception : List ℕ × Option MTy → List ℕ × Option GroundType

@@ -1,26 +1,25 @@
 -- The typing rules of specialised terms: a test of each node with the types that its parts carry. The Definition of Standard ML, section 4.10, without
 -- type variables; constructors and primitives are taken at the types that their nodes carry.
-use Rattle.std.specs.Prelude.{ℕ, nat_eq, Bool, true, false, ◌&&◌, ◌||◌, if◌then◌else◌, List, [], ◌∷◌, ◌++◌, map, Option, Some, None, is_some, codes}
+use Rattle.std.specs.Prelude.{ℕ, nat_eq, Bool, true, false, ◌&&◌, ◌||◌, if◌then◌else◌, List, [], ◌∷◌, ◌++◌, map, Option, Some, None, codes}
 use Rattle.std.specs.Option.{option_and_then, option_map, option_map_or}
 use Rattle.std.specs.List.{list_all, slice_get}
 use Rattle.std.specs.Str.{bytes_eq}
-use Rattle.sml_syntax.specs.TypeTerms as s
-use Rattle.sml_syntax.specs.TypeTerms.{Schemes}
-use Rattle.sml_syntax.specs.BasisTable as b
-use Rattle.sml_syntax.specs.BasisTable.{BasisScheme, TypeName, basis_values}
-use Rattle.sml_syntax.specs.Primitives.{row_of, primitives}
-use Rattle.region_syntax.specs.declared.specialised.Constructor.{Constructor}
-use Rattle.region_syntax.specs.declared.specialised.Constructor.TheVariants as con
+use Rattle.type_terms.specs.TypeTerms as s
+use Rattle.type_terms.specs.TypeTerms.{Schemes}
+use Rattle.basis_table.specs.BasisTable as b
+use Rattle.basis_table.specs.BasisTable.{BasisScheme, TypeName}
+use Rattle.sml_syntax.specs.declared.constructor.Constructor.{Constructor}
+use Rattle.sml_syntax.specs.declared.constructor.Constructor.TheVariants as con
 use Rattle.region_syntax.specs.GroundTypes as t
 use Rattle.region_syntax.specs.GroundTypes.{GroundType, GroundTypes, many_types, with_types}
 use Rattle.region_syntax.specs.GroundTerms as g
 use Rattle.region_syntax.specs.GroundTerms.{Datatype}
 use Rattle.region_syntax.specs.Erasure.{erased_argument}
 use Rattle.region_syntax.specs.Effects.{same_ground, same_grounds}
-use Rattle.region_syntax.specs.PrimitiveTypes.{is_datatype, is_plain}
+use Rattle.region_syntax.specs.PrimitiveTypes.{primitive_scheme, is_datatype, is_plain}
 use Rattle.region_syntax.specs.Datatypes.{type_stands, declaration_stands, argument_stands}
 use Rattle.region_syntax.specs.RegionTyping.{may_compare, all_hold}
-use Rattle.region_syntax.specs.TopLevel.{basis_datatypes, basis_exceptions, begins_with, same_constructor, same_datatype}
+use Rattle.region_syntax.specs.TopLevel.{basis_datatypes, basis_exceptions, begins_with, same_constructor, same_datatype, declarations_follow}
 
 -- names with their types, the innermost first
 abbrev pub Context : Type 0
@@ -107,7 +106,7 @@ unfoldable mutual
 
   pub bound_by_each : g.Pats → Context
   bound_by_each g.no_pats = []
-  bound_by_each (g.pats p ps) = bound_by p ++ bound_by_each ps
+  bound_by_each (g.pats p ps) = bound_by_each ps ++ bound_by p
 
 unfoldable pub is_once : Context → Bool
 is_once [] = true
@@ -124,7 +123,7 @@ with_group (g.defs name rs ds) c = (name, function_type rs) ∷ with_group ds c
 
 unfoldable pub bound_by_rules : g.Rules → Context
 bound_by_rules g.no_rules = []
-bound_by_rules (g.rules p e rs) = bound_by p ++ bound_by_rules rs
+bound_by_rules (g.rules p e rs) = bound_by_rules rs ++ bound_by p
 
 -- the names of declarations, before the others; those of the first part of a `local` are seen in it alone
 unfoldable pub shown_by : g.Decs → Context → Context
@@ -239,8 +238,7 @@ comparison_fits tables name _ = true
 
 unfoldable pub primitive_fits : Tables → List ℕ → GroundType → Bool
 primitive_fits tables name a =
-    option_map_or (λ row. option_map_or (λ fs. true) (row_matches row a []) false) (row_of name basis_values) false
-    && is_some (row_of name primitives) && comparison_fits tables name a
+    option_map_or (λ scheme. option_map_or (λ fs. true) (row_matches scheme a []) false) (primitive_scheme name) false && comparison_fits tables name a
 
 -- whether the rule of a node's form holds
 unfoldable pub pat_fits : Tables → GroundType → g.PatForm → Bool
@@ -349,7 +347,7 @@ abbrev pub tables_fit : Tables → Bool
 tables_fit tables =
     begins_with same_datatype basis_datatypes tables.datatypes
     && begins_with (same_constructor same_ground) (map (λ c. (c.0, erased_argument c.1)) basis_exceptions) tables.exceptions
-    && list_all (declaration_stands tables.datatypes) tables.datatypes && list_all (λ e. argument_stands tables.datatypes e.1) tables.exceptions
+    && declarations_follow 0 tables.datatypes && list_all (declaration_stands tables.datatypes) tables.datatypes && list_all (λ e. argument_stands tables.datatypes e.1) tables.exceptions
 
 abbrev pub program_tables : g.Program → Tables
 program_tables p = record { datatypes = p.datatypes; exceptions = p.exceptions }

@@ -5,9 +5,16 @@ pub mod RegionTerms
 pub mod Erasure
 pub mod Effects
 pub mod Cost
+pub mod FreeNames
+pub mod Width
 pub mod PrimitiveTypes
 pub mod Datatypes
 pub mod Binders
 pub mod RegionTyping
 pub mod TopLevel
 pub mod GroundTyping
+pub mod UsedRegions
+pub mod EqualityWays
+pub mod CodeSize
+pub mod Descriptions
+pub mod GlobalImage

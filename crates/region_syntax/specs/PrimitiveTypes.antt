@@ -1,14 +1,14 @@
 -- The types with places that a primitive may have. Of this project, over the table of the basis.
 -- A value that a primitive makes has one place for itself and all its parts. It follows the boxed parts of its arguments that its row names; values
 -- that it compares or that a cache keeps it follows with all their parts. Making a `bool` or an `order` has no effect.
-use Rattle.std.specs.Prelude.{ℕ, nat_eq, Bool, true, false, ◌&&◌, ◌||◌, if◌then◌else◌, List, [], ◌∷◌, Option, Some, None, is_some}
+use Rattle.std.specs.Prelude.{ℕ, nat_eq, Bool, true, false, ◌&&◌, ◌||◌, if◌then◌else◌, List, [], ◌∷◌, Option, Some, None, codes}
 use Rattle.std.specs.Option.{option_and_then, option_map_or}
 use Rattle.std.specs.List.{list_all}
-use Rattle.sml_syntax.specs.TypeTerms as s
-use Rattle.sml_syntax.specs.TypeTerms.{Schemes}
-use Rattle.sml_syntax.specs.BasisTable as b
-use Rattle.sml_syntax.specs.BasisTable.{BasisScheme, TypeName, basis_values}
-use Rattle.sml_syntax.specs.Primitives.{row_of, primitives}
+use Rattle.type_terms.specs.TypeTerms as s
+use Rattle.type_terms.specs.TypeTerms.{Schemes}
+use Rattle.basis_table.specs.BasisTable as b
+use Rattle.basis_table.specs.BasisTable.{BasisScheme, TypeName, basis_values}
+use Rattle.std.specs.Str.{bytes_eq}
 use Rattle.region_syntax.specs.declared.types.Place.{Place}
 use Rattle.region_syntax.specs.declared.types.Place.TheVariants as place
 use Rattle.region_syntax.specs.declared.types.Effect.{Effect}
@@ -17,6 +17,14 @@ use Rattle.region_syntax.specs.GroundTypes.{GroundType, GroundTypes}
 use Rattle.region_syntax.specs.RegionTypes as t
 use Rattle.region_syntax.specs.RegionTypes.{RegionType, RegionTypes, erased_type}
 use Rattle.region_syntax.specs.Effects.{same_place, is_place_in, no_effect, on, both, within, same_ground, same_type, all_of}
+
+-- The row of a primitive in the table of the basis. `ref`, which stands there too, is no primitive but a constructor.
+abbrev pub scheme_among : List ℕ → List (List ℕ × BasisScheme) → Option BasisScheme
+scheme_among name [] = None
+scheme_among name (row ∷ rows) = if bytes_eq row.0 name then Some row.1 else scheme_among name rows
+
+unfoldable pub primitive_scheme : List ℕ → Option BasisScheme
+primitive_scheme name = if bytes_eq name (codes "ref") then None else scheme_among name basis_values
 
 -- what a variable of a row stands for: a type with places, or one without, in a cache or description
 pub data Filled : Type 0 where
@@ -123,6 +131,6 @@ unfoldable pub name_lies_there : RegionType → Bool
 name_lies_there (t.Arrow p (t.Tuple q (t.types a (t.types c (t.types (t.Str name) ts)))) e (t.Cache r k v)) = same_place name r
 name_lies_there _ = true
 
--- A primitive of the table at a type. `ref`, which stands in the table of the basis too, is no primitive but a constructor.
+-- a primitive of the table at a type
 unfoldable pub primitive_fits : List ℕ → RegionType → Bool
-primitive_fits name a = option_map_or (λ row. row_fits row a (matched [] no_effect) && name_lies_there a) (row_of name basis_values) false && is_some (row_of name primitives)
+primitive_fits name a = option_map_or (λ scheme. row_fits scheme a (matched [] no_effect) && name_lies_there a) (primitive_scheme name) false

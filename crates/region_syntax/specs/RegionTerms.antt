@@ -3,7 +3,7 @@ use Rattle.std.specs.Prelude.{ℕ, ℤ, List, [], ◌∷◌, Option, Some, None,
 use Rattle.region_syntax.specs.declared.types.Place.{Place}
 use Rattle.region_syntax.specs.declared.types.Effect.{Effect}
 use Rattle.region_syntax.specs.declared.types.RTy.{RTy}
-use Rattle.region_syntax.specs.declared.specialised.Constructor.{Constructor}
+use Rattle.sml_syntax.specs.declared.constructor.Constructor.{Constructor}
 use Rattle.region_syntax.specs.declared.region.RPat.{RPat}
 use Rattle.region_syntax.specs.declared.region.RPatForm.{RPatForm}
 use Rattle.region_syntax.specs.declared.region.RPatForm.TheOpen.{RPatForm-F, RPat-F}

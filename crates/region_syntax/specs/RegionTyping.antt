@@ -1,20 +1,21 @@
 -- The region rules: a test of each node with the types that its parts carry. Tofte and Talpin's region calculus; the top level and packets are of this project.
-use Rattle.std.specs.Prelude.{ℕ, zero, suc, nat_eq, Bool, true, false, ◌&&◌, ◌||◌, if◌then◌else◌, List, [], ◌∷◌, ◌++◌, length, map, Option, Some, None, codes}
+use Rattle.std.specs.Prelude.{ℕ, zero, suc, ◌+◌, nat_eq, Bool, true, false, not, ◌&&◌, ◌||◌, if◌then◌else◌, List, [], ◌∷◌, ◌++◌, length, map, Option, Some, None, codes}
 use Rattle.std.specs.Option.{option_and_then, option_map, option_map_or}
 use Rattle.std.specs.List.{list_all, slice_get}
 use Rattle.std.specs.Str.{bytes_eq}
 use Rattle.region_syntax.specs.declared.types.Place.{Place}
 use Rattle.region_syntax.specs.declared.types.Place.TheVariants as place
 use Rattle.region_syntax.specs.declared.types.Effect.{Effect}
-use Rattle.region_syntax.specs.declared.specialised.Constructor.{Constructor}
-use Rattle.region_syntax.specs.declared.specialised.Constructor.TheVariants as con
+use Rattle.sml_syntax.specs.declared.constructor.Constructor.{Constructor}
+use Rattle.sml_syntax.specs.declared.constructor.Constructor.TheVariants as con
 use Rattle.region_syntax.specs.GroundTypes as g
 use Rattle.region_syntax.specs.GroundTypes.{GroundType, GroundTypes}
 use Rattle.region_syntax.specs.GroundTerms.{Datatype}
 use Rattle.region_syntax.specs.RegionTypes as t
 use Rattle.region_syntax.specs.RegionTypes.{RegionType, RegionTypes, erased_type}
 use Rattle.region_syntax.specs.RegionTerms as r
-use Rattle.region_syntax.specs.Effects.{same_place, is_number_in, no_effect, on, both, within, without, same_type, same_types, all_of, is_free_of, place_of, on_type, placed, place_for, effect_for, put}
+use Rattle.region_syntax.specs.Effects.{same_place, is_place_in, no_effect, on, both, within, without, same_type, same_types, all_of, is_free_of, place_of, on_type, placed, place_for, effect_for, put}
+use Rattle.region_syntax.specs.Cost.{regions_of, meeting, leaving}
 use Rattle.region_syntax.specs.PrimitiveTypes.{primitive_fits}
 use Rattle.region_syntax.specs.Datatypes.{type_stands, are_uniform}
 
@@ -104,7 +105,7 @@ unfoldable pub constructor_fits : Tables → Constructor → RegionType → Bool
 constructor_fits tables c (t.Arrow p a e b) = takes a (argument_of tables c b) && within (on_type b) e
 constructor_fits tables c a = takes_none (argument_of tables c a)
 
--- the names that a pattern binds, with their types
+-- the names that a pattern binds, with their types: those of later parts stand before those of earlier ones
 unfoldable mutual
   pub bound_by : r.Pat → Context
   bound_by (r.pat a form) = bound_by_form a form
@@ -118,7 +119,7 @@ unfoldable mutual
 
   pub bound_by_each : r.Pats → Context
   bound_by_each r.no_pats = []
-  bound_by_each (r.pats p ps) = bound_by p ++ bound_by_each ps
+  bound_by_each (r.pats p ps) = bound_by_each ps ++ bound_by p
 
 unfoldable pub is_once : Context → Bool
 is_once [] = true
@@ -167,7 +168,7 @@ with_group (r.defs head rs ds) c = (head.name, poly head.regions head.effects he
 
 unfoldable pub bound_by_rules : r.Rules → Context
 bound_by_rules r.no_rules = []
-bound_by_rules (r.rules p e rs) = bound_by p ++ bound_by_rules rs
+bound_by_rules (r.rules p e rs) = bound_by_rules rs ++ bound_by p
 
 -- the names of declarations, before the others; those of the first part of a `local` are seen in it alone
 unfoldable pub shown_by : r.Decs → Context → Context
@@ -210,7 +211,7 @@ unfoldable mutual
   form_effect c a (r.Both x y) = both (effect c x) (effect c y)
   form_effect c a (r.Either x y) = both (effect c x) (effect c y)
   form_effect c a (r.Quote ps at) = both (on at) (pieces_effect c ps)
-  form_effect c a (r.LetRegion rs e) = without rs (effect c e)
+  form_effect c a (r.LetRegion rs e) = without (meeting rs (regions_of e)) (effect c e)
   form_effect c a (r.Fix ds e) = both (group_effect ds) (effect (with_group ds c) e)
   form_effect c a (r.Inst name places effects) = instance_effect (scheme_of name c) a
 
@@ -243,10 +244,7 @@ unfoldable mutual
 -- none of these regions and effect variables is free in what the names stand for; those that a scheme binds are bound once in the program
 unfoldable pub scheme_is_free_of : List ℕ → List ℕ → Scheme → Bool
 scheme_is_free_of rs es (mono a) = is_free_of rs es (all_of a)
-scheme_is_free_of rs es (poly qs fs at a) = is_free_of (others qs rs) (others fs es) (all_of a) && is_free_of rs [] (on at) where
-  others : List ℕ → List ℕ → List ℕ
-  others bound [] = []
-  others bound (n ∷ ns) = if is_number_in n bound then others bound ns else n ∷ others bound ns
+scheme_is_free_of rs es (poly qs fs at a) = is_free_of (leaving qs rs) (leaving fs es) (all_of a) && is_free_of rs [] (on at)
 
 abbrev pub context_is_free_of : List ℕ → List ℕ → Context → Bool
 context_is_free_of rs es c = list_all (λ entry. scheme_is_free_of rs es entry.1) c
@@ -268,13 +266,20 @@ unfoldable pub is_function : Context → RegionType → r.Rules → Bool
 is_function c (t.Arrow p a e b) rs = is_match a b rs && within (rules_effect c rs) e
 is_function c _ rs = false
 
+-- a call follows the closure that lies there: the place stands in the function's effect
+unfoldable pub calls_at : Place → RegionType → Bool
+calls_at at (t.Arrow p a e b) = is_place_in at e.regions
+calls_at at _ = false
+
 -- a value of this type lies there
 unfoldable pub lies_at : Place → RegionType → Bool
 lies_at at a = option_map_or (same_place at) (place_of a) false
 
 -- A group, in the context of its bodies, where all its names have their whole schemes: the regions and effect variables that a function binds
 -- are free neither in what stands around, nor where a closure of the group lies, nor in a scheme of the group that doesn't bind them.
--- An instance has a closure of its own, so the place of the function's type is another one than that of the group's closure, and may be bound.
+-- In a program each region is bound once, so what a group binds is bound by no group inside its bodies.
+-- An instance is an object of its own, which leads to the group's closure. So the place of the function's type is another one than that of the closure
+-- and may be bound, and a call follows both: the closure's place stands in the effect of the function's type.
 unfoldable pub group_is_free_of : List ℕ → List ℕ → r.Defs → Bool
 group_is_free_of rs es r.no_defs = true
 group_is_free_of rs es (r.defs head body ds) =
@@ -283,7 +288,7 @@ group_is_free_of rs es (r.defs head body ds) =
 unfoldable pub are_functions : Context → Context → r.Defs → r.Defs → Bool
 are_functions outer inner group r.no_defs = true
 are_functions outer inner group (r.defs head body ds) =
-    is_function inner head.ty body && context_is_free_of head.regions head.effects outer
+    is_function inner head.ty body && calls_at head.at head.ty && context_is_free_of head.regions head.effects outer
     && group_is_free_of head.regions head.effects group && are_functions outer inner group ds
 
 unfoldable pub some_defs : r.Defs → Bool
@@ -380,9 +385,18 @@ chosen (suc n) ds choice = chosen n ds (refined choice 0 ds)
 abbrev pub equality_choice : List Datatype → List Bool
 equality_choice ds = chosen (suc (length ds)) ds (map (λ d. true) ds)
 
--- Values of a type may be compared: equality is theirs, and it goes through finitely many types.
+unfoldable pub same_choice : List Bool → List Bool → Bool
+same_choice [] [] = true
+same_choice (b ∷ bs) (c ∷ cs) = (if b then c else not c) && same_choice bs cs
+same_choice _ _ = false
+
+-- no datatype is left to be taken out of the choice
+abbrev pub is_kept : List Datatype → List Bool → Bool
+is_kept ds choice = same_choice (refined choice 0 ds) choice
+
+-- Values of a type may be compared: equality is theirs, by a choice that is kept, and it goes through finitely many types.
 abbrev pub may_compare : List Datatype → GroundType → Bool
-may_compare ds a = admits (equality_choice ds) a && are_uniform ds a
+may_compare ds a = admits (equality_choice ds) a && are_uniform ds a && is_kept ds (equality_choice ds)
 
 -- a comparison stands only at a type whose values may be compared
 unfoldable pub comparison_fits : Tables → List ℕ → RegionType → Bool
@@ -509,6 +523,11 @@ unfoldable pub first_failing : List Bool → Option ℕ
 first_failing [] = None
 first_failing (true ∷ bs) = option_map suc (first_failing bs)
 first_failing (false ∷ bs) = Some 0
+
+-- that of two lists, one after the other: the first of the first list, or else that of the second one, which has so many before it
+abbrev pub failing_after : ℕ → Option ℕ → Option ℕ → Option ℕ
+failing_after n (Some i) other = Some i
+failing_after n None other = option_map (λ i. n + i) other
 
 -- the own rule of each node holds
 abbrev pub all_hold : List Bool → Bool

@@ -1,6 +1,6 @@
 // Region terms: specialised terms in which each boxed value has a place.
-use crate::{Constructor, Effect, MData, Place, RTy};
-use sml_syntax::{Boxed, Listed, Text};
+use crate::{Effect, MData, Place, RTy};
+use sml_syntax::{Boxed, Constructor, Listed, Text};
 
 /// A pattern.
 #[cycle(region_patterns)]

@@ -1,18 +1,7 @@
 // Specialised terms: the trees of programs with a type without variables at each node,
 // constructors resolved, and one copy of a polymorphic binding for each of its instances.
 use crate::{MData, MTy};
-use sml_syntax::{Boxed, Listed, Text};
-
-/// What a name of a constructor stands for.
-#[derive(Clone, Copy, Debug, PartialEq, Eq)]
-pub enum Constructor {
-    /// One of a datatype: the numbers of the datatype and of the constructor in it.
-    Data(u32, u32),
-    /// An exception by its number.
-    Exn(u32),
-    /// `ref`
-    Ref,
-}
+use sml_syntax::{Boxed, Constructor, Listed, Text};
 
 /// A pattern.
 #[cycle(specialised_patterns)]

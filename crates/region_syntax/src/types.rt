@@ -2,7 +2,7 @@
 use sml_syntax::{Boxed, Listed, Text};
 
 /// A type. The variables stand only in the declaration of a datatype.
-#[derive(Debug, PartialEq, Eq, Drop)]
+#[derive(PartialEq, Eq, Drop)]
 pub enum MTy {
     Int,
     Char,
@@ -24,8 +24,11 @@ pub enum MTy {
 
 /// A datatype: how many parameters it has, and its constructors in order, each with the type of its
 /// argument, if any.
-#[derive(Debug, PartialEq, Eq, Drop)]
+#[derive(PartialEq, Eq, Drop)]
 pub struct MData {
+    /// The number of the `datatype` declaration that it stands in: those of the basis come first,
+    /// one for each of its datatypes, and then the program's in order.
+    pub declaration: u32,
     pub params: u32,
     pub cons: Listed<(Text, Option<MTy>)>,
 }
@@ -41,14 +44,14 @@ pub enum Place {
 
 /// The regions that a function makes or follows values in when it is called, and its effect
 /// variables: both in order and without repeats, `Global` first.
-#[derive(Debug, PartialEq, Eq, Drop)]
+#[derive(PartialEq, Eq, Drop)]
 pub struct Effect {
     pub regions: Listed<Place>,
     pub vars: Listed<u32>,
 }
 
 /// A type with a place for each boxed value, and an effect at each function.
-#[derive(Debug, PartialEq, Eq, Drop)]
+#[derive(PartialEq, Eq, Drop)]
 pub enum RTy {
     Int,
     Char,

@@ -14,7 +14,7 @@ use Rattle.sml_parse.proofs.Meaning.{one_answer}
 use Rattle.script_loader.specs.declared.refusal.LoadRefusal.{LoadRefusal}
 use Rattle.script_loader.specs.declared.source.Source.{Source}
 use Rattle.script_loader.specs.declared.placed.Placed.{Placed}
-use Rattle.sml_syntax.specs.Scope.{IsOneOf, IsFirstUnbound}
+use Rattle.typing_rules.specs.Scope.{IsOneOf, IsFirstUnbound}
 use Rattle.script_loader.specs.declared.load.ProjectTrees.{ProjectTrees}
 use Rattle.script_loader.specs.declared.front.LoadedFront.{LoadedFront}
 use Rattle.script_loader.specs.Lists.{Each, none, one}

@@ -1,7 +1,7 @@
 -- The mistakes of files as refusals.
 use Rattle.std.proofs.Common.{◌≡◌, Option, Some, None, Result, Ok, Err, IfErr, inl, inr, subst, sym}
-use Rattle.sml_syntax.specs.Spelling.{Refusal}
-use Rattle.sml_syntax.specs.Tokens.{IsRefused}
+use Rattle.grammar_rules.specs.Spelling.{Refusal}
+use Rattle.grammar_rules.specs.Tokens.{IsRefused}
 use Rattle.sml_lex.specs.Lexed.{IfRefused}
 use Rattle.script_loader.specs.declared.refusal.LoadRefusal.{LoadRefusal}
 use Rattle.script_loader.specs.declared.placed.Placed.{Placed}

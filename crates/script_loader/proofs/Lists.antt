@@ -1,6 +1,6 @@
 -- Two lists side by side.
 use Rattle.std.proofs.Common.{◌≡◌, ℕ, suc, ◌+◌, ◌<◌, List, [], ◌∷◌, ◌++◌, length, get_or, drop, drop-cons, append_assoc, append-nil, subst, refl, ap, sym, ◌∙◌, inl, inr, ◌⊎◌, arith}
-use Rattle.sml_syntax.specs.Scope.{IsOneOf, first_one, other_one}
+use Rattle.typing_rules.specs.Scope.{IsOneOf, first_one, other_one}
 use Rattle.script_loader.specs.Lists.{Each, none, one, SoFar, Stops}
 
 -- one more at the ends

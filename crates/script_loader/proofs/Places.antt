@@ -6,9 +6,9 @@ use Rattle.project_lines.specs.declared.project.ProjectFile.TheVariants as file
 use Rattle.sml_syntax.specs.declared.token.Token.{Token}
 use Rattle.sml_syntax.specs.declared.token.TokenForm.{TokenForm}
 use Rattle.sml_syntax.specs.declared.token.TokenForm.TheVariants as form
-use Rattle.sml_syntax.specs.PreludeText.{prelude_text}
-use Rattle.sml_syntax.specs.Spelling.{Blank, Is, TextByte}
-use Rattle.sml_syntax.specs.Tokens.{Mode, Lexes, ends, piece, HasTokens, with_text, text_at}
+use Rattle.sml_evaluation.specs.PreludeText.{prelude_text}
+use Rattle.grammar_rules.specs.Spelling.{Blank, Is, TextByte}
+use Rattle.grammar_rules.specs.Tokens.{Mode, Lexes, ends, piece, HasTokens, with_text, text_at}
 use Rattle.outside_world.specs.Told.{Contents}
 use Rattle.project_lines.specs.declared.project.Project.{Project}
 use Rattle.script_loader.specs.declared.source.Source.{Source}

@@ -5,7 +5,7 @@ use Rattle.std.proofs.lemmas.List.{drop_all, length-append}
 use Rattle.project_lines.specs.declared.project.ProjectFile.{ProjectFile}
 use Rattle.project_lines.specs.declared.project.ProjectFile.TheVariants as file
 use Rattle.sml_syntax.specs.declared.tree.Program.{Program}
-use Rattle.sml_syntax.specs.Page.{all_decs, page_decs}
+use Rattle.sml_evaluation.specs.Page.{all_decs, page_decs}
 use Rattle.script_loader.specs.declared.scripts.Base.{Base}
 use Rattle.script_loader.specs.Behind.{script_behind, scripts_behind}
 use Rattle.script_loader.specs.declared.source.Source.{Source}

@@ -1,6 +1,6 @@
 -- The scripts of a project that aren't typed.
 use Rattle.std.proofs.Common.{◌≡◌, ℕ, List, [], ◌∷◌, ◌++◌, Result, Ok, Err, IfOk, IfErr, sym, inl, inr, subst}
-use Rattle.sml_syntax.specs.Scope.{AllBound, IsFirstUnbound}
+use Rattle.typing_rules.specs.Scope.{AllBound, IsFirstUnbound}
 use Rattle.hm_infer.specs.Numbering.{IsItemPlace}
 use Rattle.hm_infer.specs.declared.typed.Typed.{Typed}
 use Rattle.hm_infer.specs.declared.refusal.TypeRefusal.{TypeRefusal}

@@ -1,7 +1,7 @@
 -- The front of a project: its scripts with the types of their programs, or why there is none.
 use Rattle.std.specs.Prelude.{◌≡◌, ◌⊎◌, ℕ, List, [], ◌∷◌, ◌++◌, length, Result, Ok, Err}
 use Rattle.outside_world.specs.Told.{Contents}
-use Rattle.sml_syntax.specs.Scope.{IsOneOf, AllBound, IsFirstUnbound}
+use Rattle.typing_rules.specs.Scope.{IsOneOf, AllBound, IsFirstUnbound}
 use Rattle.hm_infer.specs.Numbering.{HasNodes, IsItemPlace}
 use Rattle.script_loader.specs.declared.refusal.LoadRefusal.{LoadRefusal}
 use Rattle.script_loader.specs.declared.refusal.LoadRefusal.TheVariants as refusal

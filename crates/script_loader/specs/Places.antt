@@ -4,7 +4,7 @@ use Rattle.std.specs.Prelude.{ℕ, ◌+◌, ◌-◌, List, [], ◌∷◌, map, l
 use Rattle.project_lines.specs.declared.project.ProjectFile.{ProjectFile}
 use Rattle.project_lines.specs.declared.project.ProjectFile.TheVariants as file
 use Rattle.sml_syntax.specs.declared.token.Token.{Token}
-use Rattle.sml_syntax.specs.PreludeText.{prelude_text}
+use Rattle.sml_evaluation.specs.PreludeText.{prelude_text}
 use Rattle.script_loader.specs.declared.source.Source.{Source}
 use Rattle.script_loader.specs.declared.placed.Placed.{Placed}
 use Rattle.script_loader.specs.Sources.{bytes_of}

@@ -1,7 +1,7 @@
 -- The refusals of the steps as those of a load: the file that each names, and its place.
 use Rattle.std.specs.Prelude.{◌≡◌, ◌⊎◌, ℕ, ◌-◌, List, Option, Some, None}
-use Rattle.sml_syntax.specs.Spelling as spell
-use Rattle.sml_syntax.specs.Spelling.{Refusal}
+use Rattle.grammar_rules.specs.Spelling as spell
+use Rattle.grammar_rules.specs.Spelling.{Refusal}
 use Rattle.sml_parse.specs.declared.parser.ParseRefusal.{ParseRefusal}
 use Rattle.sml_parse.specs.declared.parser.ParseRefusal.TheVariants as parse
 use Rattle.project_lines.specs.declared.project.LineFault.{LineFault}

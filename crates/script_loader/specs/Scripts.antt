@@ -4,7 +4,7 @@ use Rattle.std.specs.Prelude.{ℕ, ◌+◌, List, [], ◌∷◌, length}
 use Rattle.project_lines.specs.declared.project.ProjectFile.{ProjectFile}
 use Rattle.project_lines.specs.declared.project.ProjectFile.TheVariants as file
 use Rattle.sml_syntax.specs.declared.tree.Program.{Program}
-use Rattle.sml_syntax.specs.Page.{all_decs, page_decs}
+use Rattle.sml_evaluation.specs.Page.{all_decs, page_decs}
 use Rattle.script_loader.specs.declared.load.ProjectTrees.{ProjectTrees}
 use Rattle.script_loader.specs.declared.placed.Placed.{Placed}
 use Rattle.script_loader.specs.declared.scripts.ScriptProgram.{ScriptProgram}

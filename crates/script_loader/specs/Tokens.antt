@@ -1,8 +1,8 @@
 -- The tokens of a file, or its first lexical mistake.
 use Rattle.std.specs.Prelude.{◌≡◌, ℕ, List}
 use Rattle.sml_syntax.specs.declared.token.Token.{Token}
-use Rattle.sml_syntax.specs.Spelling.{Refusal}
-use Rattle.sml_syntax.specs.Tokens.{HasTokens, IsRefused}
+use Rattle.grammar_rules.specs.Spelling.{Refusal}
+use Rattle.grammar_rules.specs.Tokens.{HasTokens, IsRefused}
 use Rattle.script_loader.specs.declared.refusal.LoadRefusal.{LoadRefusal}
 use Rattle.script_loader.specs.declared.placed.Placed.{Placed}
 use Rattle.script_loader.specs.declared.tokens.Lexed.{Lexed}

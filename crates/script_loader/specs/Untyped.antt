@@ -1,6 +1,6 @@
 -- A script whose program isn't typed, whatever stands in others.
 use Rattle.std.specs.Prelude.{◌≡◌, ℕ, List}
-use Rattle.sml_syntax.specs.Scope.{AllBound, IsFirstUnbound}
+use Rattle.typing_rules.specs.Scope.{AllBound, IsFirstUnbound}
 use Rattle.hm_infer.specs.Numbering.{IsItemPlace}
 use Rattle.hm_infer.specs.declared.refusal.TypeRefusal.{TypeRefusal}
 use Rattle.hm_infer.specs.declared.refusal.TypeRefusal.TheVariants as types

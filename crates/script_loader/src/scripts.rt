@@ -1,6 +1,6 @@
 // The programs of a project's scripts.
 ghost use Rattle.std.specs.Prelude.{◌≡◌, ◌++◌, [], ◌∷◌, length, IfOk, OnOk};
-ghost use Rattle.sml_syntax.specs.Page.{all_decs};
+ghost use Rattle.sml_evaluation.specs.Page.{all_decs};
 ghost use Rattle.script_loader.specs.Places.{of_libraries};
 ghost use Rattle.script_loader.specs.Scripts.{scripts_of};
 ghost use Rattle.script_loader.specs.Behind.{script_behind, scripts_behind};

@@ -1,7 +1,7 @@
 // The types of a project's scripts.
 ghost use Rattle.std.specs.Prelude.{◌≡◌, length, IfOk, IfErr};
 ghost use Rattle.script_loader.specs.Lists.{Each, Stops};
-ghost use Rattle.sml_syntax.specs.Scope.{AllBound};
+ghost use Rattle.typing_rules.specs.Scope.{AllBound};
 ghost use Rattle.hm_infer.specs.Numbering.{HasNodes};
 ghost use Rattle.script_loader.specs.Refusals.{Tells, IsTold};
 ghost use Rattle.script_loader.specs.Front.{IsTyped, TypeCause};

@@ -36,7 +36,7 @@ use Rattle.sml_grammar.specs.declared.symbol.FunPhrase.TheVariants as fp
 use Rattle.sml_grammar.specs.declared.symbol.LaterPhrase.{LaterPhrase}
 use Rattle.sml_grammar.specs.declared.symbol.LaterPhrase.TheVariants as lp
 use Rattle.sml_grammar.specs.Sorts.{is_mark, level_of, begins_exp, begins_atom, begins_tail, begins_pat, begins_ty, begins_dec, begins_body, is_infix, is_infix_name, is_any_name, is_op_name, is_type_name, is_name, is_ty_var, is_star, is_cons, is_plain, is_anti, is_anti_from, is_anti_to, is_quote_to}
-use Rattle.sml_syntax.specs.Nodes.{name_place}
+use Rattle.grammar_rules.specs.Nodes.{name_place}
 use Rattle.sml_grammar.specs.Tokens.{text_of, one_more, operand_level, may_be_infix}
 use Rattle.sml_grammar.specs.Moves.{Move, Takes, Skips, Fails}
 use Rattle.sml_grammar.specs.Takes.{atom_take, exp_take, tail_take, pat_take, apat_take, atpat_take, ty_take, dec_take, body_take, end_take}

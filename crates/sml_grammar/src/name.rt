@@ -1,8 +1,8 @@
 // What the table reads of a token: its text, and the place of a name.
 ghost use Rattle.std.specs.Prelude.{◌≡◌, IfOk};
 ghost use Rattle.sml_grammar.specs.Tokens.{text_of, one_more, operand_level, may_be_infix};
-ghost use Rattle.sml_syntax.specs.InfixNames.{infix_level, symbol_level, word_level};
-ghost use Rattle.sml_syntax.specs.Nodes.{name_place};
+ghost use Rattle.grammar_rules.specs.InfixNames.{infix_level, symbol_level, word_level};
+ghost use Rattle.grammar_rules.specs.Nodes.{name_place};
 
 use sml_syntax::{NoMemory, Span, Text, Token, TokenForm};
 use std::alloc::Global;
@@ -31,7 +31,7 @@ pub fn copy_text(alloc: Global, token: &Token) -> Result<Text, NoMemory>
 }
 
 /// The place of an antiquoted name, behind its `^`.
-#[tactic(auto, unfolding(sml_syntax::specs::Nodes::name_place))]
+#[tactic(auto, unfolding(grammar_rules::specs::Nodes::name_place))]
 pub fn name_place(span: Span) -> u64
     ensures { result ≡ name_place span }
 {
@@ -79,7 +79,7 @@ pub fn may_be_infix(name: &[u8], count: u64) -> bool
     }
 }
 
-#[tactic(auto, unfolding(sml_syntax::specs::InfixNames::infix_level))]
+#[tactic(auto, unfolding(grammar_rules::specs::InfixNames::infix_level))]
 pub fn infix_level(name: &[u8]) -> Option<u8>
     ensures { result ≡ infix_level name.now }
 {
@@ -89,7 +89,7 @@ pub fn infix_level(name: &[u8]) -> Option<u8>
     }
 }
 
-#[tactic(auto, unfolding(sml_syntax::specs::InfixNames::symbol_level))]
+#[tactic(auto, unfolding(grammar_rules::specs::InfixNames::symbol_level))]
 fn symbol_level(name: &[u8]) -> Option<u8>
     ensures { result ≡ symbol_level name.now }
 {
@@ -124,7 +124,7 @@ fn symbol_level(name: &[u8]) -> Option<u8>
     }
 }
 
-#[tactic(auto, unfolding(sml_syntax::specs::InfixNames::word_level))]
+#[tactic(auto, unfolding(grammar_rules::specs::InfixNames::word_level))]
 fn word_level(name: &[u8]) -> Option<u8>
     ensures { result ≡ word_level name.now }
 {

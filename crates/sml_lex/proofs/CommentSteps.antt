@@ -1,6 +1,6 @@
 -- Comments, a byte at a time.
 use Rattle.std.proofs.Common.{◌≡◌, ℕ, ◌+◌, ◌-◌, ◌≤◌, List, [], ◌∷◌, Bool, true, false, cond, Option, Some, refl, ap, sym, ◌∙◌, subst, arith}
-use Rattle.sml_syntax.specs.Spelling.{Reading, Good, Refused, OpenComment, Blank, Before, comment, before_behind, depth_behind, opens, shuts, is_nil, only}
+use Rattle.grammar_rules.specs.Spelling.{Reading, Good, Refused, OpenComment, Blank, Before, comment, before_behind, depth_behind, opens, shuts, is_nil, only}
 use Rattle.sml_lex.specs.Coded.{comment_ends}
 
 pub comment_goes : (n : ℕ) (w v : Before) (d e b : ℕ) → comment_ends w d b ≡ false → v ≡ before_behind w b → e ≡ depth_behind w d b → (q : List ℕ) → comment n w d (b ∷ q) ≡ comment n v e q

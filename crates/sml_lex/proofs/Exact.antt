@@ -1,8 +1,8 @@
 -- The answers of the lexer come wherever they may: there is one of them.
 use Rattle.std.proofs.Common.{◌≡◌, ◌⊎◌, inl, inr, ℕ, List, Option, Some, None, Result, Ok, Err, IfOk, IfErr, refl, ap, sym, Global, Vec}
 use Rattle.sml_syntax.specs.declared.token.Token.{Token}
-use Rattle.sml_syntax.specs.Spelling.{Refusal}
-use Rattle.sml_syntax.specs.Tokens.{HasTokens, IsRefused}
+use Rattle.grammar_rules.specs.Spelling.{Refusal}
+use Rattle.grammar_rules.specs.Tokens.{HasTokens, IsRefused}
 use Rattle.sml_lex.specs.declared.refusal.LexRefusal.{LexRefusal}
 use Rattle.sml_lex.specs.Lexed.{refusal_of, IfRefused, GivesTokens, GivesRefusal}
 use Rattle.sml_lex.proofs.Unique.{one-partition, one-refusal, not-both}

@@ -5,7 +5,8 @@ use Rattle.std.proofs.lemmas.List.{drop_all}
 use Rattle.std.proofs.Math.Seq.{drop-cons}
 use Rattle.sml_syntax.specs.declared.token.Lack.TheVariants as lack
 use Rattle.sml_syntax.specs.declared.token.TokenForm.TheVariants as form
-use Rattle.sml_syntax.specs.Spelling.{Reading, Good, Refused, Refusal, BadByte, Unsupported, Blank, Class, class, expression, expression_by, is, is_digit, numbers, symbols, literal, Char, comment, Other_byte, behind_open, behind_hash, behind_tilde, behind_dot, is_nil, only}
+use Rattle.grammar_rules.specs.Spelling.{Reading, Good, Refused, Refusal, BadByte, Unsupported, Blank, Class, class, expression, expression_by, is, numbers, symbols, literal, Char, comment, Other_byte, behind_open, behind_hash, behind_tilde, behind_dot, is_nil, only}
+use Rattle.sml_syntax.specs.ByteClasses.{is_digit}
 use Rattle.sml_lex.specs.declared.bytes.Found.{Found}
 use Rattle.sml_lex.specs.declared.refusal.LexRefusal.{LexRefusal}
 use Rattle.sml_lex.specs.Ends.{Ends, EndsBadly}

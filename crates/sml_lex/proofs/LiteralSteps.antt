@@ -3,7 +3,8 @@ use Rattle.std.proofs.Common.{◌≡◌, ◌≢◌, ◌⊎◌, inl, inr, ℕ, su
 use Rattle.std.proofs.lemmas.Bool.Decides.{nat_tests}
 use Rattle.sml_syntax.specs.declared.token.Lack.TheVariants as lack
 use Rattle.sml_syntax.specs.declared.token.TokenForm.TheVariants as form
-use Rattle.sml_syntax.specs.Spelling.{Reading, Good, Refused, Refusal, BadByte, OpenString, Unsupported, is, Literal, TextOf, Char, CharOf, with_byte, cut_off, closed, takes, is_fit, unfit, is_digit, is_short_escape, short_escape, literal, escape, second_digit, third_digit, is_nil, only}
+use Rattle.grammar_rules.specs.Spelling.{Reading, Good, Refused, Refusal, BadByte, OpenString, Unsupported, is, Literal, TextOf, Char, CharOf, with_byte, cut_off, closed, takes, is_fit, unfit, is_short_escape, short_escape, literal, escape, second_digit, third_digit, is_nil, only}
+use Rattle.sml_syntax.specs.ByteClasses.{is_digit}
 use Rattle.sml_lex.specs.Ends.{Ends, EndsBadly}
 use Rattle.sml_lex.specs.declared.bytes.Found.{Found}
 use Rattle.sml_lex.specs.declared.refusal.LexRefusal.{LexRefusal}

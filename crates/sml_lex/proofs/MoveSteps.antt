@@ -7,8 +7,9 @@ use Rattle.std.specs.List.{list_all, slice_range}
 use Rattle.sml_syntax.specs.declared.token.Token.{Token}
 use Rattle.sml_syntax.specs.declared.token.TokenForm.{TokenForm}
 use Rattle.sml_syntax.specs.declared.token.TokenForm.TheVariants as form
-use Rattle.sml_syntax.specs.Spelling.{Reading, Good, Refused, Refusal, OpenQuote, Piece, Blank, Is, TextByte, is, is_letter, is_name_byte, is_nil, only, expression, quoted, behind_caret}
-use Rattle.sml_syntax.specs.Tokens.{Mode, Program, QuotedText, Antiquoted, reading, Longest, behind, behind_token, token, with_text, with_piece, Lexes, ends, piece, Refuses, text_open, expression_open, here, later}
+use Rattle.grammar_rules.specs.Spelling.{Reading, Good, Refused, Refusal, OpenQuote, Piece, Blank, Is, TextByte, is, is_name_byte, is_nil, only, expression, quoted, behind_caret}
+use Rattle.sml_syntax.specs.ByteClasses.{is_letter}
+use Rattle.grammar_rules.specs.Tokens.{Mode, Program, QuotedText, Antiquoted, reading, Longest, behind, behind_token, token, with_text, with_piece, Lexes, ends, piece, Refuses, text_open, expression_open, here, later}
 use Rattle.sml_lex.specs.declared.refusal.LexRefusal.{LexRefusal}
 use Rattle.sml_lex.specs.Ends.{Ends, EndsBadly}
 use Rattle.sml_lex.specs.Coded.{IfRefused, RunTo}

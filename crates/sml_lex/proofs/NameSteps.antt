@@ -5,7 +5,8 @@ use Rattle.std.proofs.lemmas.List.{drop_all}
 use Rattle.std.proofs.Math.Seq.{drop-cons}
 use Rattle.std.specs.List.{list_all, slice_range}
 use Rattle.sml_syntax.specs.declared.token.TokenForm.TheVariants as form
-use Rattle.sml_syntax.specs.Spelling.{Reading, Good, Refused, Refusal, BadByte, is_name_byte, is_letter, is_symbol_byte, is_plain, names, next_word, named, alone, symbols, symbol_kind, only, is}
+use Rattle.grammar_rules.specs.Spelling.{Reading, Good, Refused, Refusal, BadByte, is_name_byte, is_symbol_byte, is_plain, names, next_word, named, alone, symbols, symbol_kind, only, is}
+use Rattle.sml_syntax.specs.ByteClasses.{is_letter}
 use Rattle.sml_lex.specs.declared.bytes.Found.{Found}
 use Rattle.sml_lex.specs.declared.refusal.LexRefusal.{LexRefusal}
 use Rattle.sml_lex.specs.Ends.{Ends, EndsBadly}

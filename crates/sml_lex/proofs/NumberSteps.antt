@@ -4,7 +4,8 @@ use Rattle.std.proofs.lemmas.Bool.Decides.{nat_tests}
 use Rattle.std.proofs.lemmas.List.{at_drop_more}
 use Rattle.sml_syntax.specs.declared.token.Lack.{Lack}
 use Rattle.sml_syntax.specs.declared.token.Lack.TheVariants as lack
-use Rattle.sml_syntax.specs.Spelling.{Reading, Refused, Refusal, Unsupported, is_digit, is_exponent, is_hexadecimal, decimal_from, integer, is_real, is_word, is_hexadecimal_form, is_zero, number_lack, numbers}
+use Rattle.grammar_rules.specs.Spelling.{Reading, Refused, Refusal, Unsupported, is_exponent, is_hexadecimal, decimal_from, integer, is_real, is_word, is_hexadecimal_form, is_zero, number_lack, numbers}
+use Rattle.sml_syntax.specs.ByteClasses.{is_digit}
 use Rattle.sml_lex.specs.Ends.{Ends, EndsBadly}
 use Rattle.std.specs.List.{slice_range}
 use Rattle.sml_lex.specs.Coded.{RunTo, first_is_digit, begins_real, begins_word, begins_hexadecimal, lack_begun}

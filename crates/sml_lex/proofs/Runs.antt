@@ -3,7 +3,7 @@ use Rattle.std.proofs.Common.{◌≡◌, ◌≢◌, ℕ, suc, ◌+◌, ◌-◌, 
 use Rattle.std.proofs.Math.Seq.{drop-cons, drop-append_seam}
 use Rattle.std.proofs.lemmas.List.{drop_all, drop-drop}
 use Rattle.std.specs.List.{list_all, slice_range}
-use Rattle.sml_syntax.specs.Spelling.{Reading, only}
+use Rattle.grammar_rules.specs.Spelling.{Reading, only}
 use Rattle.sml_lex.specs.Ends.{Ends}
 use Rattle.sml_lex.specs.Coded.{RunTo, run_none, run_stop, run_more}
 use Rattle.sml_lex.proofs.Steps.{step, slice-front}

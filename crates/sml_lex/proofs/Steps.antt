@@ -3,7 +3,7 @@ use Rattle.std.proofs.Common.{◌≡◌, ◌≢◌, ◌⊎◌, inl, inr, ℕ, su
 use Rattle.std.proofs.Math.Seq.{drop-cons, take-add}
 use Rattle.std.proofs.lemmas.List.{drop_all, take_at, drop-drop}
 use Rattle.std.specs.List.{list_all, slice_range}
-use Rattle.sml_syntax.specs.Spelling.{Reading, Good, Refused, Refusal, is_nil, only}
+use Rattle.grammar_rules.specs.Spelling.{Reading, Good, Refused, Refusal, is_nil, only}
 use Rattle.sml_lex.specs.declared.bytes.Found.{Found}
 use Rattle.sml_lex.specs.declared.refusal.LexRefusal.{LexRefusal}
 use Rattle.sml_lex.specs.declared.refusal.LexRefusal.TheVariants as refusal

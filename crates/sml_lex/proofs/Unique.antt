@@ -2,8 +2,8 @@
 use Rattle.std.proofs.Common.{◌≡◌, ◌≢◌, ◌⊎◌, inl, inr, ℕ, zero, suc, ◌+◌, ◌<◌, ◌≤◌, List, [], ◌∷◌, ◌++◌, length, Option, Some, None, refl, ap, sym, ◌∙◌, subst, arith}
 use Rattle.std.proofs.lemmas.Bool.Decides.{leb_tells}
 use Rattle.sml_syntax.specs.declared.token.Token.{Token}
-use Rattle.sml_syntax.specs.Spelling.{Refusal, OpenQuote, Piece, Reading, Good, Refused}
-use Rattle.sml_syntax.specs.Tokens.{Mode, Program, QuotedText, Antiquoted, reading, Longest, behind, with_piece, Lexes, ends, piece, Refuses, text_open, expression_open, here, later}
+use Rattle.grammar_rules.specs.Spelling.{Refusal, OpenQuote, Piece, Reading, Good, Refused}
+use Rattle.grammar_rules.specs.Tokens.{Mode, Program, QuotedText, Antiquoted, reading, Longest, behind, with_piece, Lexes, ends, piece, Refuses, text_open, expression_open, here, later}
 
 tail-is : {a b : ℕ} {xs ys : List ℕ} → a ∷ xs ≡ b ∷ ys → xs ≡ ys
 tail-is h = cc

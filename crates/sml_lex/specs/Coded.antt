@@ -5,8 +5,9 @@ use denote.Ref.{Bor}
 use Rattle.sml_syntax.specs.declared.token.TokenForm.{TokenForm}
 use Rattle.sml_syntax.specs.declared.token.Lack.{Lack}
 use Rattle.sml_syntax.specs.declared.token.Lack.TheVariants as lack
-use Rattle.sml_syntax.specs.Spelling as spell
-use Rattle.sml_syntax.specs.Spelling.{Reading, Good, Refused, Refusal, Piece, Class, WordKind, Before, Literal, is_name_byte, is_digit, is_symbol_byte, is_letter, is_exponent, is_hexadecimal}
+use Rattle.grammar_rules.specs.Spelling as spell
+use Rattle.grammar_rules.specs.Spelling.{Reading, Good, Refused, Refusal, Piece, Class, WordKind, Before, Literal, is_name_byte, is_symbol_byte, is_exponent, is_hexadecimal}
+use Rattle.sml_syntax.specs.ByteClasses.{is_digit, is_letter}
 use Rattle.sml_lex.specs.declared.bytes.Class.{Class as CodeClass}
 use Rattle.sml_lex.specs.declared.bytes.Class.TheVariants as class
 use Rattle.sml_lex.specs.declared.bytes.Run.{Run}

@@ -1,6 +1,6 @@
 -- The longest piece at a place, for a reading of which the first bytes may be taken already.
 use Rattle.std.specs.Prelude.{◌≡◌, ℕ, ◌+◌, List, ◌∷◌, ◌++◌, length, Option, Some, None}
-use Rattle.sml_syntax.specs.Spelling.{Reading, Refused, Refusal}
+use Rattle.grammar_rules.specs.Spelling.{Reading, Refused, Refusal}
 
 -- the bytes from n on begin with a piece that is read so, up to a place, and with none that is longer
 pub record Ends (A : List ℕ → Option Reading) (n : ℕ) (bs : List ℕ) (r : Reading) (to : ℕ) : Type 0 where

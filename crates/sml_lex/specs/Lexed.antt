@@ -3,8 +3,8 @@ use Rattle.std.specs.Prelude.{◌≡◌, ◌⊎◌, ℕ, List, Option, Some, Non
 use Rattle.std.specs.declared.alloc.Global.{Global}
 use Rattle.std.specs.declared.vec.Vec.{Vec}
 use Rattle.sml_syntax.specs.declared.token.Token.{Token}
-use Rattle.sml_syntax.specs.Spelling as spell
-use Rattle.sml_syntax.specs.Spelling.{Refusal}
+use Rattle.grammar_rules.specs.Spelling as spell
+use Rattle.grammar_rules.specs.Spelling.{Refusal}
 use Rattle.sml_lex.specs.declared.refusal.LexRefusal.{LexRefusal}
 use Rattle.sml_lex.specs.declared.refusal.LexRefusal.TheVariants as refusal
 

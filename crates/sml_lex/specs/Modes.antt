@@ -1,6 +1,6 @@
 -- Where the lexer stands among quotations.
 use Rattle.std.specs.Prelude.{ℕ, zero, suc, List, [], ◌∷◌, reverse, Bool, true, false, Option, Some, None}
-use Rattle.sml_syntax.specs.Tokens.{Mode, Program, QuotedText, Antiquoted, around_quotation, parens_behind}
+use Rattle.grammar_rules.specs.Tokens.{Mode, Program, QuotedText, Antiquoted, around_quotation, parens_behind}
 use Rattle.sml_lex.specs.declared.quotes.Place.{Place}
 use Rattle.sml_lex.specs.declared.quotes.Place.TheVariants as place
 

@@ -3,8 +3,9 @@ use Rattle.std.specs.Prelude.{◌≡◌, ℕ, suc, ◌+◌, ◌<◌, ◌≤◌, 
 use Rattle.sml_syntax.specs.declared.token.Token.{Token}
 use Rattle.sml_syntax.specs.declared.token.TokenForm.{TokenForm}
 use Rattle.sml_syntax.specs.declared.token.TokenForm.TheVariants as form
-use Rattle.sml_syntax.specs.Spelling.{Refusal, is, is_letter, quoted}
-use Rattle.sml_syntax.specs.Tokens.{Mode, Lexes, Refuses, token, behind_token}
+use Rattle.grammar_rules.specs.Spelling.{Refusal, is, quoted}
+use Rattle.sml_syntax.specs.ByteClasses.{is_letter}
+use Rattle.grammar_rules.specs.Tokens.{Mode, Lexes, Refuses, token, behind_token}
 use Rattle.sml_lex.specs.Ends.{Ends}
 
 -- what stands behind the place `to` stands from `at` on too, with the tokens between

@@ -1,6 +1,7 @@
 // Bytes by their classes, and runs of them.
 ghost use Rattle.std.specs.Prelude.{◌≡◌, ◌≤◌, ◌<◌, length, drop, slice_index};
-ghost use Rattle.sml_syntax.specs.Spelling as spell;
+ghost use Rattle.sml_syntax.specs.ByteClasses as classes;
+ghost use Rattle.grammar_rules.specs.Spelling as spell;
 ghost use Rattle.sml_lex.specs.Coded as coded;
 
 use sml_syntax::TokenForm;
@@ -48,13 +49,13 @@ pub(crate) fn is_blank(b: u8) -> bool
 }
 
 pub(crate) fn is_digit(b: u8) -> bool
-    ensures { result ≡ spell.is_digit b }
+    ensures { result ≡ classes.is_digit b }
 {
     48 <= b && b <= 57
 }
 
 pub(crate) fn is_letter(b: u8) -> bool
-    ensures { result ≡ spell.is_letter b }
+    ensures { result ≡ classes.is_letter b }
 {
     (65 <= b && b <= 90) || (97 <= b && b <= 122)
 }
@@ -102,7 +103,7 @@ pub(crate) fn is_hexadecimal(b: u8) -> bool
     is_digit(b) || (65 <= b && b <= 70) || (97 <= b && b <= 102)
 }
 
-#[tactic(auto, unfolding(sml_syntax::specs::Spelling::class))]
+#[tactic(auto, unfolding(grammar_rules::specs::Spelling::class))]
 pub(crate) fn class_of(b: u8) -> Class
     ensures { coded.class_as result ≡ spell.class b }
 {
@@ -128,7 +129,7 @@ pub(crate) fn class_of(b: u8) -> Class
 }
 
 /// The class of a byte that is no blank, letter, digit or symbol.
-#[tactic(auto, unfolding(sml_syntax::specs::Spelling::mark_class))]
+#[tactic(auto, unfolding(grammar_rules::specs::Spelling::mark_class))]
 fn class_of_mark(b: u8) -> Class
     ensures { coded.class_as result ≡ spell.mark_class b }
 {

@@ -1,6 +1,6 @@
 // Comments, which nest.
 ghost use Rattle.std.specs.Prelude.{◌≡◌, ◌≤◌, ◌<◌, ◌+◌, ◌^◌, length, drop};
-ghost use Rattle.sml_syntax.specs.Spelling as spell;
+ghost use Rattle.grammar_rules.specs.Spelling as spell;
 ghost use Rattle.sml_lex.specs.Coded as coded;
 
 use crate::refusal::LexRefusal;

@@ -1,6 +1,6 @@
 // The pieces of expressions.
 ghost use Rattle.std.specs.Prelude.{◌≡◌, ◌≤◌, ◌<◌, ◌+◌, length, drop, slice_index};
-ghost use Rattle.sml_syntax.specs.Spelling as spell;
+ghost use Rattle.grammar_rules.specs.Spelling as spell;
 ghost use Rattle.sml_lex.specs.Coded as coded;
 
 use crate::bytes::{Class, Found, class_of, digit_at};

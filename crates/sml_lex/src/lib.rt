@@ -3,8 +3,8 @@
 
 ghost use Rattle.std.specs.Prelude.{◌≡◌, ◌≤◌, ◌<◌, ◌++◌, ◌∷◌, [], List, false, None, length, drop, OnOk, IfOk, IfErr};
 ghost use Rattle.sml_syntax.specs.declared.token.Token.{Token};
-ghost use Rattle.sml_syntax.specs.Spelling.{Refusal};
-ghost use Rattle.sml_syntax.specs.Tokens.{HasTokens, IsRefused, OnePartition, OneRefusal, NeverBoth, Refuses, token};
+ghost use Rattle.grammar_rules.specs.Spelling.{Refusal};
+ghost use Rattle.grammar_rules.specs.Tokens.{HasTokens, IsRefused, OnePartition, OneRefusal, NeverBoth, Refuses, token};
 ghost use Rattle.sml_lex.specs.Lexed.{IfRefused, refusal_of, GivesTokens, GivesRefusal};
 ghost use Rattle.sml_lex.specs.Modes as modes;
 ghost use Rattle.sml_lex.specs.Moves.{Moves};

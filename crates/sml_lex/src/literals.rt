@@ -1,6 +1,6 @@
 // Texts and characters.
 ghost use Rattle.std.specs.Prelude.{◌≡◌, ◌≤◌, ◌<◌, ◌+◌, [], Some, length, drop};
-ghost use Rattle.sml_syntax.specs.Spelling as spell;
+ghost use Rattle.grammar_rules.specs.Spelling as spell;
 ghost use Rattle.sml_lex.specs.Coded as coded;
 
 use crate::bytes::{Found, digit_at};

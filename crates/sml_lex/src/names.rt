@@ -1,6 +1,6 @@
 // Names, long names, type variables and symbols.
 ghost use Rattle.std.specs.Prelude.{◌≡◌, ◌≤◌, ◌<◌, ◌+◌, [], ◌∷◌, length, drop, slice_index, slice_range};
-ghost use Rattle.sml_syntax.specs.Spelling as spell;
+ghost use Rattle.grammar_rules.specs.Spelling as spell;
 ghost use Rattle.sml_lex.specs.Coded as coded;
 
 use crate::bytes::{Found, Run, is_letter, run_end};

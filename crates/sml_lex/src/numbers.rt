@@ -1,6 +1,6 @@
 // Integers, and the forms of numbers that the language lacks.
 ghost use Rattle.std.specs.Prelude.{◌≡◌, ◌≤◌, ◌<◌, ◌+◌, ◌^◌, [], ◌∷◌, length, drop, slice_index, IfSome, IsNone};
-ghost use Rattle.sml_syntax.specs.Spelling as spell;
+ghost use Rattle.grammar_rules.specs.Spelling as spell;
 ghost use Rattle.sml_lex.specs.Coded as coded;
 
 use crate::bytes::{Found, Run, is_digit, is_hexadecimal, run_end};

@@ -1,6 +1,6 @@
 // The text of quotations, with what ends its pieces.
 ghost use Rattle.std.specs.Prelude.{◌≡◌, ◌≤◌, ◌<◌, ◌+◌, false, true, None, length, drop, slice_index, IfOk, IfErr};
-ghost use Rattle.sml_syntax.specs.Tokens.{Refuses};
+ghost use Rattle.grammar_rules.specs.Tokens.{Refuses};
 ghost use Rattle.sml_lex.specs.Coded as coded;
 ghost use Rattle.sml_lex.specs.Moves.{Moves, TextTo, IsStop};
 ghost use Rattle.sml_lex.specs.Modes as modes;

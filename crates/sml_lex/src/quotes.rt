@@ -1,7 +1,7 @@
 // Where the lexer stands among quotations.
 ghost use Rattle.std.specs.Prelude.{◌≡◌, OnOk, IfOk, IfErr, None};
 ghost use Rattle.sml_lex.specs.Coded.{refusal_of};
-ghost use Rattle.sml_syntax.specs.Tokens as tokens;
+ghost use Rattle.grammar_rules.specs.Tokens as tokens;
 ghost use Rattle.sml_lex.specs.Modes as modes;
 
 use crate::refusal::LexRefusal;
@@ -29,7 +29,7 @@ pub(crate) struct Quotes {
 
 impl Model for Quotes {
     ghost use Rattle.std.specs.Prelude.{reverse};
-    ghost use Rattle.sml_syntax.specs.Tokens.{Mode};
+    ghost use Rattle.grammar_rules.specs.Tokens.{Mode};
     ghost use Rattle.sml_lex.specs.Modes.{mode_of};
 
     ghost Value = { Mode };

@@ -1,6 +1,6 @@
 // Reserved words, and words of forms that the language lacks.
 ghost use Rattle.std.specs.Prelude.{◌≡◌};
-ghost use Rattle.sml_syntax.specs.Spelling as spell;
+ghost use Rattle.grammar_rules.specs.Spelling as spell;
 ghost use Rattle.sml_lex.specs.Coded as coded;
 
 use sml_syntax::Lack;
@@ -67,7 +67,7 @@ fn is_among(words: &[&str], word: &[u8]) -> bool
     words.iter().any(|w| w.as_bytes() == word)
 }
 
-#[tactic(auto, unfolding(sml_syntax::specs::Spelling::word_kind))]
+#[tactic(auto, unfolding(grammar_rules::specs::Spelling::word_kind))]
 pub(crate) fn word_kind(word: &[u8]) -> WordKind
     ensures { coded.word_as result ≡ spell.word_kind word.now }
 {
@@ -102,7 +102,7 @@ pub(crate) fn is_plain(word: &[u8]) -> bool
     }
 }
 
-#[tactic(auto, unfolding(sml_syntax::specs::Spelling::symbol_kind))]
+#[tactic(auto, unfolding(grammar_rules::specs::Spelling::symbol_kind))]
 pub(crate) fn symbol_kind(run: &[u8]) -> WordKind
     ensures { coded.word_as result ≡ spell.symbol_kind run.now }
 {

@@ -4,9 +4,9 @@ use Rattle.sml_syntax.specs.declared.token.Token.{Token}
 use Rattle.sml_syntax.specs.declared.tree.Program.{Program}
 use Rattle.sml_syntax.specs.declared.tree.Dec.{Dec, out-Dec}
 use Rattle.sml_syntax.specs.NestedTypes.{Found}
-use Rattle.sml_syntax.specs.Nodes.{last_of, last_after}
-use Rattle.sml_syntax.specs.Grammar.{items, decs_tree}
-use Rattle.sml_syntax.specs.Programs.{IsWide, IsProgram, BeginsProgram, IsUnexpected, place_behind, Each, DecFits, highest, IsFirstHigh}
+use Rattle.grammar_rules.specs.Nodes.{last_of, last_after}
+use Rattle.grammar_rules.specs.Grammar.{items, decs_tree}
+use Rattle.grammar_rules.specs.Programs.{IsWide, IsProgram, BeginsProgram, IsUnexpected, place_behind, Each, DecFits, highest, IsFirstHigh}
 use Rattle.sml_grammar.specs.declared.act.Made.{Made}
 use Rattle.sml_grammar.specs.Machine.{Outcome, Accepts, Stops, place_of}
 use Rattle.sml_parse.specs.declared.parser.ParseRefusal.{ParseRefusal}

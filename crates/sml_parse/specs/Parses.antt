@@ -3,7 +3,7 @@ use Rattle.std.specs.Prelude.{◌≡◌, ◌⊎◌, ◌<◌, ◌≤◌, ℕ, Lis
 use Rattle.sml_syntax.specs.declared.token.Token.{Token}
 use Rattle.sml_syntax.specs.declared.tree.Program.{Program}
 use Rattle.sml_syntax.specs.NestedTypes.{Found}
-use Rattle.sml_syntax.specs.Programs.{IsWide, IsProgram, IsUnexpected, Each, DecFits, highest, IsFirstHigh}
+use Rattle.grammar_rules.specs.Programs.{IsWide, IsProgram, IsUnexpected, Each, DecFits, highest, IsFirstHigh}
 use Rattle.sml_parse.specs.declared.parser.ParseRefusal.{ParseRefusal}
 use Rattle.sml_parse.specs.declared.parser.ParseRefusal.TheVariants as refusal
 

@@ -20,7 +20,7 @@ use Rattle.sml_syntax.specs.declared.tree.DecForm.{out-DecForm, out-roll-DecForm
 use Rattle.sml_syntax.specs.declared.tree.DecForm.TheVariants as d
 use Rattle.sml_syntax.specs.declared.tree.DecForm.TheOpen.{ExpForm-F, DecForm-F}
 use Rattle.sml_syntax.specs.declared.tree.DecForm.TheViews.{roll-out-ExpForm}
-use Rattle.sml_syntax.specs.InfixNames.{infix_level}
+use Rattle.grammar_rules.specs.InfixNames.{infix_level}
 use Rattle.sml_syntax.specs.Layers.{ExpLayer, form_of_exp}
 use Rattle.print_laws.specs.Printing.{Forms, alternatives_from, put, has_dot, infix_by, infix_word, name_forms, in_parens, parted, alternatives, ty_forms, head_forms, pat_forms, exp_ink, exp_part, exp_forms, several_clause, dec_forms, abbrev_forms, data_forms, con_def_forms}
 use Rattle.print_laws.specs.Opened.{ty_text, con_text, starred_text, pat_text, exp_text, let_text, quote_text, dec_text, bind_text, function_text, local_text, clauses_in, several_text, put_text, level_in, app_level, operator_in, members_in, app_text}

@@ -2,7 +2,7 @@
 use Rattle.std.specs.Prelude.{ℕ, ◌∷◌, [], ◌++◌, List, Option, None, cond, codes}
 use Rattle.sml_syntax.specs.declared.tree.Exp.{Exp}
 use Rattle.sml_syntax.specs.declared.tree.DecForm.TheOpen.{ExpForm-F}
-use Rattle.sml_syntax.specs.InfixNames.{infix_level}
+use Rattle.grammar_rules.specs.InfixNames.{infix_level}
 use Rattle.sml_syntax.specs.Layers.{ExpLayer}
 use Rattle.print_laws.specs.Printing.{Forms, has_dot, in_parens, parted, name_forms, infix_word, left_place, right_place, exp_forms}
 use Rattle.print_laws.specs.Opened.{put_text, exp_text}

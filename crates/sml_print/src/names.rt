@@ -1,7 +1,7 @@
 // What the printer asks of names.
 ghost use Rattle.std.specs.Prelude.{◌≡◌};
 ghost use Rattle.std.specs.Option.{option_copied};
-ghost use Rattle.sml_syntax.specs.InfixNames.{infix_level, symbol_level, word_level};
+ghost use Rattle.grammar_rules.specs.InfixNames.{infix_level, symbol_level, word_level};
 ghost use Rattle.print_laws.specs.Printing as printing;
 ghost use Rattle.print_laws.specs.Printing.{exp_ink};
 ghost use Rattle.print_laws.specs.Spelled.{is_among_texts};
@@ -101,7 +101,7 @@ pub(crate) fn operator_level(name: &Text) -> Option<u8>
 }
 
 /// The level of an infix name; any other name has none.
-#[tactic(auto, unfolding(sml_syntax::specs::InfixNames::infix_level))]
+#[tactic(auto, unfolding(grammar_rules::specs::InfixNames::infix_level))]
 pub(crate) fn infix_level(name: &[u8]) -> Option<u8>
     ensures { result ≡ infix_level name.now }
 {
@@ -111,7 +111,7 @@ pub(crate) fn infix_level(name: &[u8]) -> Option<u8>
     }
 }
 
-#[tactic(auto, unfolding(sml_syntax::specs::InfixNames::symbol_level))]
+#[tactic(auto, unfolding(grammar_rules::specs::InfixNames::symbol_level))]
 fn symbol_level(name: &[u8]) -> Option<u8>
     ensures { result ≡ symbol_level name.now }
 {
@@ -146,7 +146,7 @@ fn symbol_level(name: &[u8]) -> Option<u8>
     }
 }
 
-#[tactic(auto, unfolding(sml_syntax::specs::InfixNames::word_level))]
+#[tactic(auto, unfolding(grammar_rules::specs::InfixNames::word_level))]
 fn word_level(name: &[u8]) -> Option<u8>
     ensures { result ≡ word_level name.now }
 {

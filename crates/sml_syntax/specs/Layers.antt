@@ -1,4 +1,4 @@
--- One level of a tree or a value: its form, with its parts as they are.
+-- One level of a tree: its form, with its parts as they are.
 use Rattle.sml_syntax.specs.declared.tree.Exp.{Exp, out-Exp}
 use Rattle.sml_syntax.specs.declared.tree.ExpForm.{ExpForm, out-ExpForm}
 use Rattle.sml_syntax.specs.declared.tree.Dec.{Dec, out-Dec}
@@ -9,10 +9,6 @@ use Rattle.sml_syntax.specs.declared.tree.Piece.{Piece}
 use Rattle.sml_syntax.specs.declared.tree.Pat.{Pat, out-Pat}
 use Rattle.sml_syntax.specs.declared.tree.PatForm.{PatForm, out-PatForm}
 use Rattle.sml_syntax.specs.declared.tree.PatForm.TheOpen.{PatForm-F}
-use Rattle.sml_syntax.specs.declared.value.Value.{Value, out-Value}
-use Rattle.sml_syntax.specs.declared.value.Bound.TheOpen.{Value-F}
-use Rattle.sml_syntax.specs.declared.value.Bound.{Bound}
-use Rattle.sml_syntax.specs.declared.value.Closure.{Closure}
 
 abbrev pub ExpLayer : Type 0
 ExpLayer = ExpForm-F DecForm ExpForm Piece Dec Exp Rule
@@ -34,10 +30,3 @@ PatLayer = PatForm-F PatForm Pat
 -- the form of a pattern
 abbrev pub form_of_pat : Pat → PatLayer
 form_of_pat p = out-PatForm (out-Pat p).form
-
-abbrev pub ValueLayer : Type 0
-ValueLayer = Value-F Bound Value Closure
-
--- the form of a value
-abbrev pub form_of_value : Value → ValueLayer
-form_of_value v = out-Value v

@@ -1,9 +1,8 @@
-// Copies of trees and values. A copy takes steps in proportion to the value's size, and its calls
-// nest no deeper than the value is high.
+// Copies of trees. A copy takes steps in proportion to the tree's size, and its calls
+// nest no deeper than the tree is high.
 mod copied;
 mod patterns;
 mod programs;
 mod types;
-mod values;
 
-pub(crate) use copied::{Copied, beside, copied_three, copied_two};
+pub use copied::{Copied, beside, copied_three, copied_two, with_pair};

@@ -2,13 +2,14 @@
 use crate::databases::open;
 use db_keeper::{Keeper, KeeperFault};
 use db_sqlite::SqliteKeeper;
-use sml_syntax::{DbAns, DbCmd, Text};
+use sml_syntax::Text;
 use std::alloc::{AllocError, Global};
 use std::path::PathBuf;
 use std::process::Abort;
 use std::rt::Runtime;
 use std::test::Fail;
 use std::{env, fs};
+use web_data::{DbAns, DbCmd};
 
 // The words of a command, with what a keeper answers.
 const CALLS: [(&[&str], &str); 34] = [

@@ -2,7 +2,7 @@
 use Rattle.std.proofs.Common.{◌≡◌, ℕ, List, Some, Result, Ok, Err, ap, sym, ◌∙◌, inl, inr, subst}
 use Rattle.std.specs.Prelude.{IfOk}
 use Rattle.outside_world.specs.Told.{Contents}
-use Rattle.sml_syntax.specs.declared.text.NoMemory.{NoMemory}
+use Rattle.no_memory.specs.declared.NoMemory.{NoMemory}
 use Rattle.script_loader.specs.declared.refusal.LoadRefusal.{LoadRefusal}
 use Rattle.script_loader.specs.declared.refusal.LoadRefusal.TheVariants as refusal
 use Rattle.script_loader.specs.declared.front.LoadedFront.{LoadedFront}

@@ -2,7 +2,7 @@
 use Rattle.std.proofs.Common.{◌≡◌, ℕ, ◌≤◌, List, Option, Some, None, Result, Ok, Err, refl, sym, subst, ◌∙◌, inl, inr, arith}
 use Rattle.std.specs.Prelude.{IfOk, IfSome, IsNone}
 use Rattle.outside_world.specs.Told.{Contents, HoldsFile}
-use Rattle.sml_syntax.specs.declared.text.NoMemory.{NoMemory}
+use Rattle.no_memory.specs.declared.NoMemory.{NoMemory}
 use Rattle.smlserver_top.specs.declared.sentences.Shows.{Shows}
 use Rattle.smlserver_top.specs.declared.sentences.Shows.TheVariants as shows
 use Rattle.smlserver_top.specs.Explained.{on_file, on_line, on_place, shows_of, IsUnread, IsSaid, IsExplained}

@@ -2,14 +2,14 @@
 use Rattle.std.proofs.Common.{◌≡◌, ℕ, Bool, true, false, List, [], map, Some, None, Result, Ok, Err, refl, ap, sym, ◌∙◌, inl, inr, subst}
 use Rattle.std.specs.Prelude.{IfOk}
 use Rattle.std.specs.Option.{option_map}
-use Rattle.sml_syntax.specs.declared.text.NoMemory.{NoMemory}
+use Rattle.no_memory.specs.declared.NoMemory.{NoMemory}
 use Rattle.script_loader.specs.declared.refusal.LoadRefusal.TheVariants as refusal
 use Rattle.script_loader.specs.declared.front.FrontScript.{FrontScript}
 use Rattle.smlserver_top.specs.declared.answer.Answer.{Answer}
 use Rattle.smlserver_top.specs.Script.{script_in}
 use Rattle.smlserver_top.proofs.Programs.{found_at}
 use Rattle.sml_syntax.specs.declared.tree.Dec.{Dec}
-use Rattle.sml_syntax.specs.Page.{PageOf, Finished, html_type}
+use Rattle.sml_evaluation.specs.Page.{PageOf, Finished, html_type}
 use Rattle.script_loader.specs.Seen.{Script}
 use Rattle.smlserver_top.specs.declared.part.Part.{Part}
 use Rattle.smlserver_top.specs.Straight.{IsStraight}

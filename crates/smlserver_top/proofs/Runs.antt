@@ -25,7 +25,7 @@ use Rattle.smlserver_top.specs.declared.part.Part.TheVariants.{Plain, Product}
 use Rattle.smlserver_top.specs.Parts.{is_plain, ArePlain, IsSmall, AreSmall, AreFew, text_of_part, text_of}
 use Rattle.smlserver_top.specs.OneRegion.{global, one_region}
 use Rattle.smlserver_top.specs.Compiled.{part_code, numbered, texts_of, rest_code, code_of}
-use Rattle.smlserver_top.proofs.Steps.{text_made_global}
+use Rattle.smlserver_top.proofs.Steps.{below_sum, text_made_global}
 
 -- so many steps from a state lead to a halt, with this body
 record Halts (code : Code) (count : ℕ) (state : State) (body : List ℕ) : Type 0 where
@@ -67,7 +67,7 @@ text_step code form databases i count a stack region text body out charge e t l 
     one_more code count state (with_text form databases a stack region text body charge) out
     (step_at code (Text i) state e
     ∙ ap (λ o. delivered code state stack (of_found o (λ x. text_result 1 x))) t
-    ∙ text_made_global 1 region text stack state refl refl l) h
+    ∙ text_made_global 1 region text stack state refl refl (below_sum (length region) (length (text_words text)) (2 ^ 32) l)) h
 
 mul_step : (code : Code) (form : List (List ℕ × List ℕ)) (databases : List (List ℕ)) (m n count a : ℕ) (stack region body out : List ℕ) (charge : ℕ) → slice_get code.instrs a ≡ Some Mul → m < 2 ^ 63 → n < 2 ^ 63 → m * n < 2 ^ 63 → Halts code count (one_region form databases (a + 1) (word_of (pos (m * n)) ∷ stack) region body (charge + 1)) out → Halts code (suc count) (one_region form databases a (word_of (pos n) ∷ word_of (pos m) ∷ stack) region body charge) out
 mul_step code form databases m n count a stack region body out charge e lm ln l h =
@@ -85,7 +85,7 @@ spell_step code form databases n count a stack region body out charge e ln l h =
     one_more code count state (with_text form databases a stack region (decimal n) body charge) out
     (step_at code TextFromInt state e
     ∙ ap (λ z. delivered code state stack (text_result 1 (spelling z))) (number_again n ln)
-    ∙ text_made_global 1 region (decimal n) stack state refl refl l) h
+    ∙ text_made_global 1 region (decimal n) stack state refl refl (below_sum (length region) (length (text_words (decimal n))) (2 ^ 32) l)) h
 
 join_step : (code : Code) (form : List (List ℕ × List ℕ)) (databases : List (List ℕ)) (p q count a : ℕ) (stack region first second body out : List ℕ) (charge : ℕ) → slice_get code.instrs a ≡ Some TextCat → text_behind p (global region) ≡ Some first → text_behind q (global region) ≡ Some second → length region + length (text_words (first ++ second)) < 2 ^ 32 → Halts code count (with_text form databases a stack region (first ++ second) body charge) out → Halts code (suc count) (one_region form databases a (1 ∷ q ∷ p ∷ stack) region body charge) out
 join_step code form databases p q count a stack region first second body out charge e hp hq l h =
@@ -94,7 +94,7 @@ join_step code form databases p q count a stack region first second body out cha
     (step_at code TextCat state e
     ∙ ap (λ o. delivered code state stack (of_found o (λ x. of_found (text_behind q (global region)) (λ y. text_result 1 (x ++ y))))) hp
     ∙ ap (λ o. delivered code state stack (of_found o (λ y. text_result 1 (first ++ y)))) hq
-    ∙ text_made_global 1 region (first ++ second) stack state refl refl l) h
+    ∙ text_made_global 1 region (first ++ second) stack state refl refl (below_sum (length region) (length (text_words (first ++ second))) (2 ^ 32) l)) h
 
 write_step : (code : Code) (form : List (List ℕ × List ℕ)) (databases : List (List ℕ)) (p count a : ℕ) (stack region text body out : List ℕ) (charge : ℕ) → slice_get code.instrs a ≡ Some Write → text_behind p (global region) ≡ Some text → Halts code count (one_region form databases (a + 1) stack region (body ++ text) (charge + 1)) out → Halts code (suc count) (one_region form databases a (p ∷ stack) region body charge) out
 write_step code form databases p count a stack region text body out charge e hp h =

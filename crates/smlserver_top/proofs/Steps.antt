@@ -13,21 +13,24 @@ use Rattle.smlserver_top.specs.declared.machine.Stop.TheVariants.{Going as going
 use Rattle.smlserver_top.specs.OneRegion.{global}
 use Rattle.smlserver_top.specs.Stop.{next_of}
 
+pub below_sum : (a b n : ℕ) → a + b < n → a < n
+below_sum a b n h = omega (arith, h)
+
 -- words made in the global region, where there is room
-pub made_in_global : (words more : List ℕ) (state : State) (f : ℕ → State → Next) → state.regions ≡ global words → length words + length more < 2 ^ 32 → made_in 1 more state f ≡ f (2 ^ 32 + length words) (grown 1 more state)
+pub made_in_global : (words more : List ℕ) (state : State) (f : ℕ → State → Next) → state.regions ≡ global words → length words < 2 ^ 32 → made_in 1 more state f ≡ f (2 ^ 32 + length words) (grown 1 more state)
 made_in_global words more state f e l =
-    let test : nat_lt (length words + length more) (2 ^ 32) ≡ true = grind (arith, nat_tests) in
-    ap (λ regions. with_found (region_words 1 regions) (λ ws. cond (nat_lt (length ws + length more) (2 ^ 32)) (f (pointer 1 (length ws)) (grown 1 more state)) Stuck)) e
+    let test : nat_lt (length words) (2 ^ 32) ≡ true = grind (arith, nat_tests) in
+    ap (λ regions. with_found (region_words 1 regions) (λ ws. cond (nat_lt (length ws) (2 ^ 32)) (f (pointer 1 (length ws)) (grown 1 more state)) Stuck)) e
     ∙ ap (λ b. cond b (f (2 ^ 32 + length words) (grown 1 more state)) Stuck) test
 
-pub text_made_global : (serial : ℕ) (words text stack : List ℕ) (state : State) → serial ≡ 1 → state.regions ≡ global words → length words + length (text_words text) < 2 ^ 32 → text_made serial text stack state ≡ pushed (2 ^ 32 + length words) stack (grown 1 (text_words text) state)
+pub text_made_global : (serial : ℕ) (words text stack : List ℕ) (state : State) → serial ≡ 1 → state.regions ≡ global words → length words < 2 ^ 32 → text_made serial text stack state ≡ pushed (2 ^ 32 + length words) stack (grown 1 (text_words text) state)
 text_made_global serial words text stack state s e l =
     ap (λ r. text_made r text stack state) s
     ∙ made_in_global words (text_words text) state (λ p later. pushed p stack later) e l
 
-pub thrown_global : (code : Code) (number : ℕ) (words name stack : List ℕ) (state : State) → state.regions ≡ global words → state.handlers ≡ [] → length words + 2 < 2 ^ 32 → slice_get code.names number ≡ Some name → thrown code number stack state ≡ Ends (Uncaught name) (onward stack (grown 1 (number ∷ 0 ∷ []) state))
+pub thrown_global : (code : Code) (number : ℕ) (words name stack : List ℕ) (state : State) → state.regions ≡ global words → state.handlers ≡ [] → length words < 2 ^ 32 → slice_get code.names number ≡ Some name → thrown code number stack state ≡ Ends (Uncaught name) (onward stack (grown 1 (number ∷ 0 ∷ []) state))
 thrown_global code number words name stack state e h l n =
-    made_in_global words (number ∷ 0 ∷ []) state (λ p later. raised_to code number p state.handlers (onward stack later)) e (omega arith)
+    made_in_global words (number ∷ 0 ∷ []) state (λ p later. raised_to code number p state.handlers (onward stack later)) e l
     ∙ ap (λ hs. raised_to code number (2 ^ 32 + length words) hs (onward stack (grown 1 (number ∷ 0 ∷ []) state))) h
     ∙ ap (λ o. with_found o (λ x. Ends (Uncaught x) (onward stack (grown 1 (number ∷ 0 ∷ []) state)))) n
 

@@ -20,4 +20,5 @@ mod told;
 mod words;
 
 pub use explanation::explain;
+pub use refusal::{line_of, refused_line};
 pub use run::run_words;

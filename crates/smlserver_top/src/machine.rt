@@ -113,16 +113,13 @@ impl Machine {
     }
 
     // Makes a text in the region of that serial, and puts its pointer on the stack.
-    #[tactic(auto, using(kam_code::proofs::Packed::text_words_length, crate::proofs::Steps::text_made_global))]
+    #[tactic(auto, using(crate::proofs::Steps::text_made_global))]
     fn make_text(&mut self, serial: u64, text: &[u8]) -> Result<Stop, NoMemory>
         requires { self.old.address < usize.MAX }
         ensures { IfOk result (λ stop. next_of stop self.new ≡ text_made serial text.now self.old.stack self.old) }
     {
         let place = self.region.len() as u64;
         if serial != 1 || place >= LIMIT {
-            return Ok(Stop::Stuck);
-        }
-        if text.len().div_ceil(8) as u64 + 1 >= LIMIT - place {
             return Ok(Stop::Stuck);
         }
         self.lay_out(text)?;
@@ -144,7 +141,7 @@ impl Machine {
         requires { self.old.address < usize.MAX }
         ensures { IfOk result (λ stop. next_of stop self.new ≡ thrown code.now number self.old.stack self.old) }
     {
-        if self.region.len() as u64 + 2 >= LIMIT {
+        if self.region.len() as u64 >= LIMIT {
             return Ok(Stop::Stuck);
         }
         let Some(name) = text_of(code.names.as_slice(), number) else {

@@ -81,7 +81,7 @@ fn named_of(refusal: &LoadRefusal) -> Option<Named<'_>>
 }
 
 /// The line of a refusal: a file, a place, a name, and the lack behind it.
-pub(crate) fn refused_line(
+pub fn refused_line(
     alloc: Global,
     file: &Text,
     place: u64,
@@ -105,7 +105,7 @@ pub(crate) fn refused_line(
 }
 
 /// The line of a refusal, unless it is want of memory.
-pub(crate) fn line_of(alloc: Global, refusal: &LoadRefusal) -> Result<Text, NoMemory>
+pub fn line_of(alloc: Global, refusal: &LoadRefusal) -> Result<Text, NoMemory>
     ensures { IfOk result (λ line. line_of refusal.now ≡ Some line) }
 {
     match named_of(refusal) {

@@ -4,7 +4,7 @@ use Rattle.std.specs.Prelude.{nat_lt, ◌==◌, ◌&&◌, ◌||◌, not}
 use Rattle.std.proofs.lemmas.Bool.{cases_lt, lt-ltb, le-ltb, ltb-true, ltb-false, eqb-true, not-false, not-true, and_parts}
 use lib.IntN.{pos, negsuc}
 use Rattle.sml_syntax.proofs.Lists.{cons_parts}
-use Rattle.sml_syntax.specs.Pickles.{zigzag, number_within}
+use Rattle.web_data.specs.Pickles.{zigzag, number_within}
 use Rattle.value_pickle.specs.declared.refusal.Halt.{Halt}
 use Rattle.value_pickle.specs.declared.refusal.Halt.TheVariants as halt
 use Rattle.value_pickle.specs.Halting.{Stops, Halts, ReadsNumber, IsNumber, limit, may_stand}

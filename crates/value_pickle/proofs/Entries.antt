@@ -7,11 +7,11 @@ use Rattle.std.specs.Ordering.{nat_cmp, is_lt}
 use Rattle.std.specs.Cmp.Lexicographic.{slice_cmp}
 use Rattle.std.proofs.lemmas.Bool.{eqb-true, and_parts}
 use Rattle.std.proofs.lemmas.Cmp.{nat_list_cmp_total}
-use Rattle.sml_syntax.specs.declared.database.DbCmd.{DbCmd}
-use Rattle.sml_syntax.specs.declared.database.DbCmd.TheVariants as cmd
-use Rattle.sml_syntax.specs.declared.database.DbAns.{DbAns}
-use Rattle.sml_syntax.specs.declared.database.DbAns.TheVariants as ans
-use Rattle.sml_syntax.specs.DatabaseAnswers.{FitsCommand, row_of_entry, KeysAscend}
+use Rattle.web_data.specs.declared.database.DbCmd.{DbCmd}
+use Rattle.web_data.specs.declared.database.DbCmd.TheVariants as cmd
+use Rattle.web_data.specs.declared.database.DbAns.{DbAns}
+use Rattle.web_data.specs.declared.database.DbAns.TheVariants as ans
+use Rattle.web_data.specs.DatabaseAnswers.{FitsCommand, row_of_entry, KeysAscend}
 use Rattle.value_pickle.specs.Answers.{IsValue, AreEntries, is_entry, precedes, are_entries}
 
 less_from : (o : Ordering) → is_lt o ≡ true → o ≡ Less

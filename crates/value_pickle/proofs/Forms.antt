@@ -3,10 +3,10 @@ use Rattle.std.proofs.Common.{◌≡◌, ℕ, ℤ, List, Bool, true, Some, None,
 use Rattle.std.specs.Prelude.{◌&&◌, nat_lt}
 use Rattle.std.specs.List.{list_all}
 use Rattle.std.proofs.lemmas.Bool.{and_parts}
-use Rattle.sml_syntax.specs.declared.datum.Datum.{Datum}
-use Rattle.sml_syntax.specs.declared.datum.Datum.TheOpen.{Datum-F}
-use Rattle.sml_syntax.specs.declared.datum.Desc.TheOpen.{Desc-F}
-use Rattle.sml_syntax.specs.Data.{DatumLayer, has_form, is_64_bits, is_text}
+use Rattle.web_data.specs.declared.datum.Datum.{Datum}
+use Rattle.web_data.specs.declared.datum.Datum.TheOpen.{Datum-F}
+use Rattle.web_data.specs.declared.datum.Desc.TheOpen.{Desc-F}
+use Rattle.web_data.specs.Data.{DatumLayer, has_form, is_64_bits, is_text}
 
 pub is_int : (f : DatumLayer) → has_form Desc-F.Int f ≡ true → (n : ℤ) × (f ≡ Datum-F.Int n) × (is_64_bits n ≡ true)
 is_int (Datum-F.Int n) h = (n, refl, h)

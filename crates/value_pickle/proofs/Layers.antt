@@ -1,16 +1,16 @@
 -- What the definitions say of each form of a description and of a datum.
 use Rattle.std.proofs.Common.{◌≡◌, ℕ, List, Bool, sym, ap, ◌∙◌}
-use Rattle.sml_syntax.specs.declared.datum.Datum.{Datum, out-Datum}
-use Rattle.sml_syntax.specs.declared.datum.Datum.TheViews.{roll-Datum, out-roll-Datum}
-use Rattle.sml_syntax.specs.declared.datum.Datum.TheOpen.{Datum-F}
-use Rattle.sml_syntax.specs.declared.datum.Datum.TheVariants as datum
-use Rattle.sml_syntax.specs.declared.datum.Desc.{Desc, map-Desc}
-use Rattle.sml_syntax.specs.declared.datum.Desc.TheOpen.{Desc-F}
-use Rattle.sml_syntax.specs.declared.datum.Desc.TheViews.{roll-Desc}
-use Rattle.sml_syntax.specs.declared.datum.Desc.TheVariants as desc
-use Rattle.sml_syntax.specs.declared.datum.Desc.TheFolds.{fold-roll-Desc}
-use Rattle.sml_syntax.specs.Data.{has_desc, has_form_of, has_form}
-use Rattle.sml_syntax.specs.Pickles.{pickle, pickle_of_form, form_pickle, list_pickle}
+use Rattle.web_data.specs.declared.datum.Datum.{Datum, out-Datum}
+use Rattle.web_data.specs.declared.datum.Datum.TheViews.{roll-Datum, out-roll-Datum}
+use Rattle.web_data.specs.declared.datum.Datum.TheOpen.{Datum-F}
+use Rattle.web_data.specs.declared.datum.Datum.TheVariants as datum
+use Rattle.web_data.specs.declared.datum.Desc.{Desc, map-Desc}
+use Rattle.web_data.specs.declared.datum.Desc.TheOpen.{Desc-F}
+use Rattle.web_data.specs.declared.datum.Desc.TheViews.{roll-Desc}
+use Rattle.web_data.specs.declared.datum.Desc.TheVariants as desc
+use Rattle.web_data.specs.declared.datum.Desc.TheFolds.{fold-roll-Desc}
+use Rattle.web_data.specs.Data.{has_desc, has_form_of, has_form}
+use Rattle.web_data.specs.Pickles.{pickle, pickle_of_form, form_pickle, list_pickle}
 
 pub has_roll : (x : Desc-F Desc) → has_desc (roll-Desc x) ≡ has_form_of (map-Desc _ _ has_desc x)
 has_roll x = fold-roll-Desc (Datum → Bool) has_form_of x

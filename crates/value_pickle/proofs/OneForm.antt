@@ -6,15 +6,15 @@ use Rattle.std.specs.List.{list_all}
 use Rattle.std.proofs.lemmas.Bool.{and_parts}
 use Rattle.std.proofs.lemmas.List.{append-nil}
 use Rattle.sml_syntax.proofs.Lists.{cons_parts, same_cut}
-use Rattle.sml_syntax.specs.declared.datum.Datum.{Datum, out-Datum}
-use Rattle.sml_syntax.specs.declared.datum.Datum.TheViews.{roll-Datum, roll-out-Datum}
-use Rattle.sml_syntax.specs.declared.datum.Datum.TheOpen.{Datum-F}
-use Rattle.sml_syntax.specs.declared.datum.Desc.{Desc, map-Desc}
-use Rattle.sml_syntax.specs.declared.datum.Desc.TheOpen.{Desc-F}
-use Rattle.sml_syntax.specs.declared.datum.Desc.TheViews.{roll-Desc}
-use Rattle.sml_syntax.specs.declared.datum.Desc.TheFolds.{ind-Desc, fold-roll-Desc}
-use Rattle.sml_syntax.specs.Data.{DatumLayer, has_form, has_form_of, has_desc}
-use Rattle.sml_syntax.specs.Pickles.{zigzag, number_pickle, bool_pickle, list_pickle, form_pickle, pickle_of_form, pickle}
+use Rattle.web_data.specs.declared.datum.Datum.{Datum, out-Datum}
+use Rattle.web_data.specs.declared.datum.Datum.TheViews.{roll-Datum, roll-out-Datum}
+use Rattle.web_data.specs.declared.datum.Datum.TheOpen.{Datum-F}
+use Rattle.web_data.specs.declared.datum.Desc.{Desc, map-Desc}
+use Rattle.web_data.specs.declared.datum.Desc.TheOpen.{Desc-F}
+use Rattle.web_data.specs.declared.datum.Desc.TheViews.{roll-Desc}
+use Rattle.web_data.specs.declared.datum.Desc.TheFolds.{ind-Desc, fold-roll-Desc}
+use Rattle.web_data.specs.Data.{DatumLayer, has_form, has_form_of, has_desc}
+use Rattle.web_data.specs.Pickles.{zigzag, number_pickle, bool_pickle, list_pickle, form_pickle, pickle_of_form, pickle}
 use Rattle.value_pickle.proofs.Digits.{one_number, one_integer}
 
 -- data that pass a test have one spelling each, and no spelling begins another

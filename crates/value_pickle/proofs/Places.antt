@@ -2,9 +2,9 @@
 use Rattle.std.proofs.Common.{◌≡◌, ℕ, ◌-◌, ◌<◌, ◌≤◌, List, [], ◌∷◌, ◌++◌, length, take, drop, Ok, refl, sym, ap, subst, ◌∙◌, append_assoc, inl, arith}
 use Rattle.std.proofs.lemmas.List.{append-nil, length-append, take_at, take-append-drop, length-take-le}
 use Rattle.sml_syntax.proofs.Lists.{front_of_front}
-use Rattle.sml_syntax.specs.declared.datum.Datum.{Datum}
-use Rattle.sml_syntax.specs.declared.datum.Desc.{Desc}
-use Rattle.sml_syntax.specs.Pickles.{pickle, IsPickle, BeginsPickle}
+use Rattle.web_data.specs.declared.datum.Datum.{Datum}
+use Rattle.web_data.specs.declared.datum.Desc.{Desc}
+use Rattle.web_data.specs.Pickles.{pickle, IsPickle, BeginsPickle}
 use Rattle.value_pickle.specs.declared.refusal.Halt.{Halt}
 use Rattle.value_pickle.specs.declared.refusal.Halt.TheVariants as halt
 use Rattle.value_pickle.specs.Reading.{NoPickle, LongestBeginning, GivesDatum}

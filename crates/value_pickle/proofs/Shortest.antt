@@ -1,7 +1,7 @@
 -- The bytes of a number as LEB128.
 use Rattle.std.proofs.Common.{◌≡◌, ℕ, zero, suc, ◌+◌, ◌*◌, ◌/◌, ◌%◌, ◌^◌, ◌<◌, ◌≤◌, List, [], ◌∷◌, length, ap, ◌∙◌, inl, inr, arith}
 use Rattle.std.proofs.lemmas.Bool.{cases_lt}
-use Rattle.sml_syntax.specs.Pickles.{number_within, number_pickle}
+use Rattle.web_data.specs.Pickles.{number_within, number_pickle}
 use Rattle.value_pickle.specs.Halting.{limit}
 use Rattle.value_pickle.specs.Leb128.{leb128_value}
 use Rattle.value_pickle.proofs.Digits.{last_digit, more_digits}

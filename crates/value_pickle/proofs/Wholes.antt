@@ -7,17 +7,17 @@ use Rattle.std.proofs.lemmas.List.Folds.{list_all-append}
 use Rattle.std.proofs.lemmas.List.Concat.{flat_map-cons}
 use lib.IntN.{pos, negsuc}
 use Rattle.sml_syntax.proofs.Lists.{cons_parts}
-use Rattle.sml_syntax.specs.declared.datum.Datum.{Datum, out-Datum}
-use Rattle.sml_syntax.specs.declared.datum.Datum.TheViews.{roll-Datum}
-use Rattle.sml_syntax.specs.declared.datum.Datum.TheOpen.{Datum-F}
-use Rattle.sml_syntax.specs.declared.datum.Datum.TheVariants as datum
-use Rattle.sml_syntax.specs.declared.datum.Desc.{Desc, map-Desc}
-use Rattle.sml_syntax.specs.declared.datum.Desc.TheVariants as desc
-use Rattle.sml_syntax.specs.declared.datum.Desc.TheOpen.{Desc-F}
-use Rattle.sml_syntax.specs.declared.datum.Desc.TheViews.{roll-Desc}
-use Rattle.sml_syntax.specs.declared.datum.Desc.TheFolds.{ind-Desc}
-use Rattle.sml_syntax.specs.Data.{DatumLayer, has_desc, has_form, is_64_bits}
-use Rattle.sml_syntax.specs.Pickles.{zigzag, number_within, bool_pickle, list_pickle, form_pickle, pickle}
+use Rattle.web_data.specs.declared.datum.Datum.{Datum, out-Datum}
+use Rattle.web_data.specs.declared.datum.Datum.TheViews.{roll-Datum}
+use Rattle.web_data.specs.declared.datum.Datum.TheOpen.{Datum-F}
+use Rattle.web_data.specs.declared.datum.Datum.TheVariants as datum
+use Rattle.web_data.specs.declared.datum.Desc.{Desc, map-Desc}
+use Rattle.web_data.specs.declared.datum.Desc.TheVariants as desc
+use Rattle.web_data.specs.declared.datum.Desc.TheOpen.{Desc-F}
+use Rattle.web_data.specs.declared.datum.Desc.TheViews.{roll-Desc}
+use Rattle.web_data.specs.declared.datum.Desc.TheFolds.{ind-Desc}
+use Rattle.web_data.specs.Data.{DatumLayer, has_desc, has_form, is_64_bits}
+use Rattle.web_data.specs.Pickles.{zigzag, number_within, bool_pickle, list_pickle, form_pickle, pickle}
 use Rattle.value_pickle.specs.declared.refusal.Halt.{Halt}
 use Rattle.value_pickle.specs.declared.refusal.Halt.TheVariants as halt
 use Rattle.value_pickle.specs.Halting.{Stops, Halts, HaltsAtFlag, IsWhole, Reads, all_have, AreItems, item_bytes, ReadsItems, IsCounted, IsNumber, ReadsNumber}

@@ -2,13 +2,13 @@
 use Rattle.std.specs.Prelude.{◌≡◌, ◌⊎◌, ℕ, List, [], ◌∷◌, map, length, Bool, true, ◌==◌, ◌&&◌}
 use Rattle.std.specs.Ordering.{nat_cmp, is_lt}
 use Rattle.std.specs.Cmp.Lexicographic.{slice_cmp}
-use Rattle.sml_syntax.specs.declared.cache.CacheAns.TheVariants as answer
-use Rattle.sml_syntax.specs.declared.database.WebCall.{WebCall}
-use Rattle.sml_syntax.specs.declared.database.WebCall.TheVariants as call
-use Rattle.sml_syntax.specs.declared.database.WebAns.{WebAns}
-use Rattle.sml_syntax.specs.declared.database.WebAns.TheVariants as web
-use Rattle.sml_syntax.specs.CacheCalls.{cache_answer_fits}
-use Rattle.sml_syntax.specs.DatabaseAnswers.{FitsCommand, row_of_entry, KeysAscend}
+use Rattle.web_data.specs.declared.cache.CacheAns.TheVariants as answer
+use Rattle.web_data.specs.declared.database.WebCall.{WebCall}
+use Rattle.web_data.specs.declared.database.WebCall.TheVariants as call
+use Rattle.web_data.specs.declared.database.WebAns.{WebAns}
+use Rattle.web_data.specs.declared.database.WebAns.TheVariants as web
+use Rattle.web_data.specs.CacheCalls.{cache_answer_fits}
+use Rattle.web_data.specs.DatabaseAnswers.{FitsCommand, row_of_entry, KeysAscend}
 
 -- The answer fits the call: a script that waits at the call goes on with it. A full group of caches ends the request,
 -- as a fault of a database does, so neither fits a call.

@@ -1,10 +1,10 @@
 -- What reading from left to right comes to, and where it stops. Of this project.
 use Rattle.std.specs.Prelude.{◌≡◌, ℕ, zero, suc, ◌-◌, ◌*◌, ◌^◌, ◌≤◌, ◌<◌, List, ◌∷◌, ◌++◌, length, Bool, true, false, ◌==◌, ◌&&◌, ◌||◌, nat_lt, not}
 use Rattle.std.specs.List.{list_all, flat_map}
-use Rattle.sml_syntax.specs.declared.datum.Datum.{Datum}
-use Rattle.sml_syntax.specs.declared.datum.Desc.{Desc}
-use Rattle.sml_syntax.specs.Data.{has_desc}
-use Rattle.sml_syntax.specs.Pickles.{number_within, list_pickle, pickle, IsPickle}
+use Rattle.web_data.specs.declared.datum.Datum.{Datum}
+use Rattle.web_data.specs.declared.datum.Desc.{Desc}
+use Rattle.web_data.specs.Data.{has_desc}
+use Rattle.web_data.specs.Pickles.{number_within, list_pickle, pickle, IsPickle}
 use Rattle.value_pickle.specs.declared.refusal.Halt.{Halt}
 use Rattle.value_pickle.specs.declared.refusal.Halt.TheVariants as halt
 use Rattle.value_pickle.specs.Reading.{NoPickle}

@@ -1,8 +1,8 @@
 -- What reading a pickle comes to. Of this project, as pickles are.
 use Rattle.std.specs.Prelude.{◌≡◌, ◌⊎◌, ℕ, ◌≤◌, ◌<◌, List, length, take, Result, Ok, Err}
-use Rattle.sml_syntax.specs.declared.datum.Datum.{Datum}
-use Rattle.sml_syntax.specs.declared.datum.Desc.{Desc}
-use Rattle.sml_syntax.specs.Pickles.{IsPickle, BeginsPickle}
+use Rattle.web_data.specs.declared.datum.Datum.{Datum}
+use Rattle.web_data.specs.declared.datum.Desc.{Desc}
+use Rattle.web_data.specs.Pickles.{IsPickle, BeginsPickle}
 use Rattle.value_pickle.specs.declared.refusal.PickleRefusal.{PickleRefusal}
 use Rattle.value_pickle.specs.declared.refusal.PickleRefusal.TheVariants as refusal
 

@@ -1,15 +1,16 @@
 // Which answers a waiting script goes on with.
 ghost use Rattle.std.specs.Prelude.{◌≡◌, true};
-ghost use Rattle.sml_syntax.specs.CacheCalls.{cache_answer_fits};
-ghost use Rattle.sml_syntax.specs.DatabaseAnswers.{FitsCommand};
+ghost use Rattle.web_data.specs.CacheCalls.{cache_answer_fits};
+ghost use Rattle.web_data.specs.DatabaseAnswers.{FitsCommand};
 ghost use Rattle.std.specs.Ordering.{nat_cmp, is_lt};
 ghost use Rattle.std.specs.Cmp.Lexicographic.{slice_cmp};
 ghost use Rattle.value_pickle.specs.Answers as answers;
 ghost use Rattle.value_pickle.specs.Answers.{FitsCall, IsValue};
 
 use crate::fits;
-use sml_syntax::{CacheAns, CacheCall, CacheOp, DbAns, DbCmd, Listed, Text, WebAns, WebCall};
+use sml_syntax::{Listed, Text};
 use std::cmp::Ordering;
+use web_data::{CacheAns, CacheCall, CacheOp, DbAns, DbCmd, WebAns, WebCall};
 
 /// Whether an answer fits a call, so that a script that waits at the call goes on with it. Takes no memory.
 pub fn answer_fits(call: &WebCall, answer: &WebAns) -> bool

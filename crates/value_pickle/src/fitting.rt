@@ -1,7 +1,7 @@
 ghost use Rattle.std.specs.Prelude.{◌≡◌, ◌^◌, nat_lt};
-ghost use Rattle.sml_syntax.specs.Data.{has_desc, is_64_bits};
+ghost use Rattle.web_data.specs.Data.{has_desc, is_64_bits};
 
-use sml_syntax::{Datum, Desc};
+use web_data::{Datum, Desc};
 
 /// Whether a datum has a description.
 pub fn fits(desc: &Desc, datum: &Datum) -> bool

@@ -1,9 +1,9 @@
 // What holds of the definitions.
 ghost use Rattle.std.specs.Prelude.{◌≡◌, ◌++◌, ◌≤◌, ◌<◌, ◌^◌, List, ℕ, [], length, true};
-ghost use Rattle.sml_syntax.specs.declared.datum.Datum.{Datum};
-ghost use Rattle.sml_syntax.specs.declared.datum.Desc.{Desc};
-ghost use Rattle.sml_syntax.specs.Data.{has_desc};
-ghost use Rattle.sml_syntax.specs.Pickles.{pickle, number_pickle};
+ghost use Rattle.web_data.specs.declared.datum.Datum.{Datum};
+ghost use Rattle.web_data.specs.declared.datum.Desc.{Desc};
+ghost use Rattle.web_data.specs.Data.{has_desc};
+ghost use Rattle.web_data.specs.Pickles.{pickle, number_pickle};
 ghost use Rattle.value_pickle.specs.Leb128.{leb128_value};
 
 /// Two data of one description have equal pickles exactly where they are equal.

@@ -1,7 +1,7 @@
 // Numbers as in DWARF's unsigned LEB128, in the fewest bytes.
 ghost use Rattle.std.specs.Prelude.{◌≡◌, ◌++◌, ◌≤◌, true, OnOk, IfOk, IfErr};
-ghost use Rattle.sml_syntax.specs.Pickles as pickles;
-ghost use Rattle.sml_syntax.specs.Pickles.{number_pickle};
+ghost use Rattle.web_data.specs.Pickles as pickles;
+ghost use Rattle.web_data.specs.Pickles.{number_pickle};
 ghost use Rattle.value_pickle.specs.Halting as halting;
 ghost use Rattle.value_pickle.specs.Halting.{Halts, IsNumber, ReadsNumber};
 

@@ -1,13 +1,14 @@
 ghost use Rattle.std.specs.Prelude.{◌≡◌, ◌++◌, ◌∷◌, [], ℕ, IfOk, IfErr, Err};
-ghost use Rattle.sml_syntax.specs.declared.datum.Datum as described;
-ghost use Rattle.sml_syntax.specs.Pickles.{IsPickle, bool_pickle};
+ghost use Rattle.web_data.specs.declared.datum.Datum as described;
+ghost use Rattle.web_data.specs.Pickles.{IsPickle, bool_pickle};
 ghost use Rattle.value_pickle.specs.Halting.{Halts, HaltsAtFlag, HaltsWhole, IsWhole, Reads, AreItems, ReadsItems, IsCounted, ReadsText};
 ghost use Rattle.value_pickle.specs.Reading.{NoPickle, GivesDatum, GivesPlace};
 
 use crate::numbers::{read_number, unzigzag};
 use crate::refusal::{Halt, PickleRefusal};
-use sml_syntax::{Boxed, Datum, Desc, Listed, NoMemory, Text};
+use sml_syntax::{Boxed, Listed, NoMemory, Text};
 use std::alloc::Global;
+use web_data::{Datum, Desc};
 
 /// The datum of a pickle. `NotAPickle` comes exactly where the bytes are none of the description, and has the length of
 /// their longest prefix that begins one.

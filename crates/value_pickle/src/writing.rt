@@ -1,10 +1,11 @@
 ghost use Rattle.std.specs.Prelude.{◌≡◌, ◌++◌, OnOk, IfOk, true};
-ghost use Rattle.sml_syntax.specs.Data.{has_desc};
-ghost use Rattle.sml_syntax.specs.Pickles.{pickle};
+ghost use Rattle.web_data.specs.Data.{has_desc};
+ghost use Rattle.web_data.specs.Pickles.{pickle};
 
 use crate::numbers::{push_number, zigzag};
-use sml_syntax::{Boxed, Datum, Desc, Listed, NoMemory, Text};
+use sml_syntax::{Boxed, Listed, NoMemory, Text};
 use std::alloc::Global;
+use web_data::{Datum, Desc};
 
 /// The pickle of a datum by its description.
 pub fn write(alloc: Global, desc: &Desc, datum: &Datum) -> Result<Text, NoMemory>

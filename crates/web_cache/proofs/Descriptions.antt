@@ -2,10 +2,10 @@
 use Rattle.std.proofs.Common.{◌≡◌, Bool, true, false, IsTrue, refl, sym, ap, subst, ◌∙◌}
 use Rattle.std.specs.Prelude.{◌&&◌}
 use Rattle.std.proofs.lemmas.Bool.{and_parts}
-use Rattle.sml_syntax.specs.declared.datum.Desc.{Desc, map-Desc, out-Desc}
-use Rattle.sml_syntax.specs.declared.datum.Desc.TheOpen.{Desc-F}
-use Rattle.sml_syntax.specs.declared.datum.Desc.TheViews.{roll-Desc, roll-out-Desc, out-roll-Desc}
-use Rattle.sml_syntax.specs.declared.datum.Desc.TheFolds.{ind-Desc, fold-roll-Desc}
+use Rattle.web_data.specs.declared.datum.Desc.{Desc, map-Desc, out-Desc}
+use Rattle.web_data.specs.declared.datum.Desc.TheOpen.{Desc-F}
+use Rattle.web_data.specs.declared.datum.Desc.TheViews.{roll-Desc, roll-out-Desc, out-roll-Desc}
+use Rattle.web_data.specs.declared.datum.Desc.TheFolds.{ind-Desc, fold-roll-Desc}
 use Rattle.web_cache.specs.SameCache.{same_form, same_form_of, same_desc}
 
 abbrev Tells : Desc → Type 0

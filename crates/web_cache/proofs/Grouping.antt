@@ -1,9 +1,9 @@
 -- What a call on one of the caches of a group makes of them all.
 use Rattle.std.proofs.Common.{◌≡◌, inl, ℕ, List, ◌∷◌, ◌++◌, map, slice_get, slice_set, get_or, Some, Result, IfOk, refl, ap, ◌∙◌, subst}
 use Rattle.std.proofs.lemmas.Option.{get_or_from_slice_get}
-use Rattle.sml_syntax.specs.declared.cache.CacheId.{CacheId}
-use Rattle.sml_syntax.specs.declared.cache.CacheOp.{CacheOp}
-use Rattle.sml_syntax.specs.declared.cache.CacheAns.{CacheAns}
+use Rattle.web_data.specs.declared.cache.CacheId.{CacheId}
+use Rattle.web_data.specs.declared.cache.CacheOp.{CacheOp}
+use Rattle.web_data.specs.declared.cache.CacheAns.{CacheAns}
 use Rattle.cache_rows.proofs.Lists.{At, at-place}
 use Rattle.web_cache.specs.CacheMachine.{OpStep, RowsStep}
 use Rattle.web_cache.specs.Shown.{Kept, standing_of}

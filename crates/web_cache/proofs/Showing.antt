@@ -1,14 +1,14 @@
 -- What the calls on rows of pickles make of the rows of data that they show.
 use Rattle.std.proofs.Common.{◌≡◌, ℕ, ◌+◌, List, [], ◌∷◌, ◌++◌, map, filter, Bool, true, false, cond, nat_le, nat_lt, Option, Some, None, Result, Ok, Err, IfOk, OnErr, refl, ap, sym, ◌∙◌, subst}
-use Rattle.sml_syntax.specs.declared.datum.Datum.{Datum}
-use Rattle.sml_syntax.specs.declared.cache.Kind.{Kind}
-use Rattle.sml_syntax.specs.declared.cache.CacheId.{CacheId}
-use Rattle.sml_syntax.specs.declared.cache.CacheOp.{CacheOp}
-use Rattle.sml_syntax.specs.declared.cache.CacheOp.TheVariants as op
-use Rattle.sml_syntax.specs.declared.cache.CacheAns.{CacheAns}
-use Rattle.sml_syntax.specs.declared.cache.CacheAns.TheVariants as ans
-use Rattle.sml_syntax.specs.Data.{has_desc}
-use Rattle.sml_syntax.specs.Pickles.{pickle, IsPickle}
+use Rattle.web_data.specs.declared.datum.Datum.{Datum}
+use Rattle.web_data.specs.declared.cache.Kind.{Kind}
+use Rattle.web_data.specs.declared.cache.CacheId.{CacheId}
+use Rattle.web_data.specs.declared.cache.CacheOp.{CacheOp}
+use Rattle.web_data.specs.declared.cache.CacheOp.TheVariants as op
+use Rattle.web_data.specs.declared.cache.CacheAns.{CacheAns}
+use Rattle.web_data.specs.declared.cache.CacheAns.TheVariants as ans
+use Rattle.web_data.specs.Data.{has_desc}
+use Rattle.web_data.specs.Pickles.{pickle, IsPickle}
 use Rattle.cache_rows.specs.RowMachine.{PickleRow, CacheRows, flushed, NoneNamed, Looks, Finds, Misses, Puts, Foretells, LeavesOut, key_of, used, stays, current, sizes, sizes_from, pickle_size, kept, settled, new_row}
 use Rattle.cache_rows.proofs.Lists.{all-append, all-left, all-right, all-filter}
 use Rattle.value_pickle.proofs.OneForm.{equal_pickles}

@@ -1,13 +1,13 @@
 -- The machine leaves caches and keys apart.
 use Rattle.std.proofs.Common.{◌≡◌, inl, inr, ℕ, zero, suc, List, [], ◌∷◌, ◌++◌, Bool, true, false, cond, nat_le, Option, Some, None, refl, sym, ◌∙◌, subst}
 use Rattle.std.specs.List.{AllByRecursion}
-use Rattle.sml_syntax.specs.declared.datum.Datum.{Datum}
-use Rattle.sml_syntax.specs.declared.cache.Kind.{Kind}
-use Rattle.sml_syntax.specs.declared.cache.CacheId.{CacheId}
-use Rattle.sml_syntax.specs.declared.cache.CacheCall.{CacheCall}
-use Rattle.sml_syntax.specs.declared.cache.CacheOp.{CacheOp}
-use Rattle.sml_syntax.specs.declared.cache.CacheOp.TheVariants as op
-use Rattle.sml_syntax.specs.declared.cache.CacheAns.{CacheAns}
+use Rattle.web_data.specs.declared.datum.Datum.{Datum}
+use Rattle.web_data.specs.declared.cache.Kind.{Kind}
+use Rattle.web_data.specs.declared.cache.CacheId.{CacheId}
+use Rattle.web_data.specs.declared.cache.CacheCall.{CacheCall}
+use Rattle.web_data.specs.declared.cache.CacheOp.{CacheOp}
+use Rattle.web_data.specs.declared.cache.CacheOp.TheVariants as op
+use Rattle.web_data.specs.declared.cache.CacheAns.{CacheAns}
 use Rattle.cache_rows.specs.RowMachine.{NoneNamed, Looks, Puts, LeavesOut, key_of, used, stays, current, sizes_from, kept, settled, new_row}
 use Rattle.cache_rows.proofs.Lists.{all-append, all-left, all-right, at-place}
 use Rattle.web_cache.specs.CacheMachine.{DataRow, Standing, Group, RowsStep, AbsentStep, OpStep, GroupStep, id_of, group_number, new_groups, row_size}

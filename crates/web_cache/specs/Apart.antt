@@ -2,8 +2,8 @@
 -- answer to a call there.
 use Rattle.std.specs.Prelude.{◌≡◌, ℕ, List, [], ◌∷◌, ⊤}
 use Rattle.std.specs.List.{AllByRecursion}
-use Rattle.sml_syntax.specs.declared.cache.CacheCall.{CacheCall}
-use Rattle.sml_syntax.specs.declared.cache.CacheAns.{CacheAns}
+use Rattle.web_data.specs.declared.cache.CacheCall.{CacheCall}
+use Rattle.web_data.specs.declared.cache.CacheAns.{CacheAns}
 use Rattle.cache_rows.specs.RowMachine.{NoneNamed, key_of}
 use Rattle.web_cache.specs.CacheMachine.{Standing, Group, CacheStep, id_of, new_groups}
 

@@ -1,14 +1,14 @@
 -- The cache machine over data: sixteen groups, each with its last moment and the caches that stand in it, each with its rows
 -- in the order of birth; what a call answers and makes of them at a moment.
 use Rattle.std.specs.Prelude.{◌≡◌, ◌⊎◌, ℕ, zero, suc, ◌+◌, ◌%◌, ◌≤◌, ◌<◌, List, [], ◌∷◌, ◌++◌, length, sum, Bool, Option, Some, None, slice_get, slice_set}
-use Rattle.sml_syntax.specs.declared.datum.Datum.{Datum}
-use Rattle.sml_syntax.specs.declared.cache.CacheId.{CacheId}
-use Rattle.sml_syntax.specs.declared.cache.CacheOp.{CacheOp}
-use Rattle.sml_syntax.specs.declared.cache.CacheOp.TheVariants as op
-use Rattle.sml_syntax.specs.declared.cache.CacheCall.{CacheCall}
-use Rattle.sml_syntax.specs.declared.cache.CacheAns.{CacheAns}
-use Rattle.sml_syntax.specs.declared.cache.CacheAns.TheVariants as ans
-use Rattle.sml_syntax.specs.Pickles.{datum_size}
+use Rattle.web_data.specs.declared.datum.Datum.{Datum}
+use Rattle.web_data.specs.declared.cache.CacheId.{CacheId}
+use Rattle.web_data.specs.declared.cache.CacheOp.{CacheOp}
+use Rattle.web_data.specs.declared.cache.CacheOp.TheVariants as op
+use Rattle.web_data.specs.declared.cache.CacheCall.{CacheCall}
+use Rattle.web_data.specs.declared.cache.CacheAns.{CacheAns}
+use Rattle.web_data.specs.declared.cache.CacheAns.TheVariants as ans
+use Rattle.web_data.specs.Pickles.{datum_size}
 use Rattle.cache_rows.specs.declared.row.Row.{Row}
 use Rattle.cache_rows.specs.RowMachine.{Named, NoneNamed, Looks, Puts}
 

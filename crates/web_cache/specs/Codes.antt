@@ -1,10 +1,10 @@
 -- How the logic stores caches and groups.
 use Rattle.std.specs.Prelude.{ℕ, List, refl}
 use Rattle.std.specs.Coded.{Coded, code_by, coded×, coded_list, coded_ℕ}
-use Rattle.sml_syntax.specs.declared.datum.Datum.{Datum}
-use Rattle.sml_syntax.specs.declared.cache.CacheId.{CacheId}
-use Rattle.sml_syntax.specs.contracts.datum.Datum as datum
-use Rattle.sml_syntax.specs.contracts.cache.CacheId as id
+use Rattle.web_data.specs.declared.datum.Datum.{Datum}
+use Rattle.web_data.specs.declared.cache.CacheId.{CacheId}
+use Rattle.web_data.specs.contracts.datum.Datum as datum
+use Rattle.web_data.specs.contracts.cache.CacheId as id
 use Rattle.web_cache.specs.CacheMachine.{DataRow, Standing, Group}
 use Rattle.web_cache.specs.Shown.{Kept}
 

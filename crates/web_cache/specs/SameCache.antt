@@ -1,8 +1,8 @@
 -- Whether two descriptions are one: a function of the first by its form, with the tests that its parts make of a description.
 use Rattle.std.specs.Prelude.{Bool, true, false, ◌&&◌}
-use Rattle.sml_syntax.specs.declared.datum.Desc.{Desc, out-Desc}
-use Rattle.sml_syntax.specs.declared.datum.Desc.TheOpen.{Desc-F}
-use Rattle.sml_syntax.specs.declared.datum.Desc.TheFolds.{fold-Desc}
+use Rattle.web_data.specs.declared.datum.Desc.{Desc, out-Desc}
+use Rattle.web_data.specs.declared.datum.Desc.TheOpen.{Desc-F}
+use Rattle.web_data.specs.declared.datum.Desc.TheFolds.{fold-Desc}
 
 abbrev pub same_form : Desc-F (Desc → Bool) → Desc-F Desc → Bool
 same_form Desc-F.Int Desc-F.Int = true

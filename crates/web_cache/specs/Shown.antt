@@ -4,13 +4,13 @@ use Rattle.std.specs.Coded.{Coded, Coded-set, ×_prop, Unit-prop, coded_list, co
 use Rattle.std.proofs.Common.{ap, sym, ◌∙◌, refl}
 use Rattle.std.specs.List.{AllByRecursion}
 use mathlib.Core.HLevel.{Σ_prop_path}
-use Rattle.sml_syntax.specs.declared.datum.Datum.{Datum}
-use Rattle.sml_syntax.specs.declared.datum.Desc.{Desc}
-use Rattle.sml_syntax.specs.declared.cache.CacheId.{CacheId}
-use Rattle.sml_syntax.specs.declared.cache.CacheAns.{CacheAns}
-use Rattle.sml_syntax.specs.declared.cache.CacheAns.TheVariants as ans
-use Rattle.sml_syntax.specs.Data.{has_desc}
-use Rattle.sml_syntax.specs.Pickles.{pickle, IsPickle}
+use Rattle.web_data.specs.declared.datum.Datum.{Datum}
+use Rattle.web_data.specs.declared.datum.Desc.{Desc}
+use Rattle.web_data.specs.declared.cache.CacheId.{CacheId}
+use Rattle.web_data.specs.declared.cache.CacheAns.{CacheAns}
+use Rattle.web_data.specs.declared.cache.CacheAns.TheVariants as ans
+use Rattle.web_data.specs.Data.{has_desc}
+use Rattle.web_data.specs.Pickles.{pickle, IsPickle}
 use Rattle.cache_rows.specs.RowMachine.{PickleRow, Looks, Puts}
 use Rattle.value_pickle.proofs.OneForm.{equal_pickles}
 use Rattle.web_cache.specs.CacheMachine.{DataRow, Standing, row_size}

@@ -1,12 +1,13 @@
 // All caches, in their groups.
 ghost use Rattle.std.specs.Prelude.{◌≡◌, ◌≤◌, ◌<◌, true, IfOk, OnErr};
-ghost use Rattle.sml_syntax.specs.CacheCalls.{cache_call_fits};
+ghost use Rattle.web_data.specs.CacheCalls.{cache_call_fits};
 ghost use Rattle.web_cache.specs.CacheMachine.{CacheStep, group_number, last_moment, new_groups};
 
 use crate::group::{CacheGroup, group_of};
-use sml_syntax::{CacheAns, CacheCall, NoMemory};
+use sml_syntax::NoMemory;
 use std::alloc::Global;
 use std::marker::Model;
+use web_data::{CacheAns, CacheCall};
 
 /// The caches of all scripts: sixteen groups, by their numbers.
 #[derive(Drop)]

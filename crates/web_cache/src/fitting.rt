@@ -1,9 +1,9 @@
 // The condition of a call.
 ghost use Rattle.std.specs.Prelude.{◌≡◌};
-ghost use Rattle.sml_syntax.specs.CacheCalls.{cache_call_fits};
+ghost use Rattle.web_data.specs.CacheCalls.{cache_call_fits};
 
-use sml_syntax::{CacheCall, CacheOp};
 use value_pickle::fits;
+use web_data::{CacheCall, CacheOp};
 
 /// Whether the key and the value of a call have the descriptions of its cache.
 pub fn call_fits(call: &CacheCall) -> bool

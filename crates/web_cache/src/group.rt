@@ -1,15 +1,16 @@
 // Groups of caches by their names.
 ghost use Rattle.std.specs.Prelude.{◌≡◌, ◌≤◌, ◌%◌, ℕ, List, map, true, sum, IfOk, OnErr, IfSome, IfNone, slice_get, Some};
 ghost use Rattle.std.specs.List.{AllByRecursion};
-ghost use Rattle.sml_syntax.specs.CacheCalls.{cache_call_fits};
+ghost use Rattle.web_data.specs.CacheCalls.{cache_call_fits};
 ghost use Rattle.cache_rows.specs.RowMachine.{NoneNamed};
 ghost use Rattle.web_cache.specs.CacheMachine.{GroupStep, OpStep, AbsentStep, group_number, id_of, new_group};
 ghost use Rattle.web_cache.specs.Shown.{Kept, standing_of, IsBy};
 
 use crate::standing::StandingCache;
-use sml_syntax::{CacheAns, CacheCall, CacheId, CacheOp, NoMemory, Text};
+use sml_syntax::{NoMemory, Text};
 use std::alloc::Global;
 use std::marker::Model;
+use web_data::{CacheAns, CacheCall, CacheId, CacheOp};
 
 /// How many caches of a group may stand.
 const MOST_CACHES: usize = 64;

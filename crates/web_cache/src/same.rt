@@ -2,7 +2,8 @@
 ghost use Rattle.std.specs.Prelude.{◌≡◌, ◌↔◌, IsTrue};
 ghost use Rattle.web_cache.specs.SameCache as same;
 
-use sml_syntax::{CacheId, Desc, Kind, Text};
+use sml_syntax::Text;
+use web_data::{CacheId, Desc, Kind};
 
 /// Whether the names, the descriptions and the kinds are equal.
 pub(crate) fn same_cache(a: &CacheId, b: &CacheId) -> bool

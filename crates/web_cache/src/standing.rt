@@ -1,17 +1,18 @@
 // A cache that stands.
 ghost use Rattle.std.specs.Prelude.{◌≡◌, ◌≤◌, ◌↔◌, [], true, IfOk, OnErr, IsTrue};
 ghost use Rattle.std.specs.Option.{option_map};
-ghost use Rattle.sml_syntax.specs.CacheCalls.{op_fits};
-ghost use Rattle.sml_syntax.specs.Data.{has_desc};
+ghost use Rattle.web_data.specs.CacheCalls.{op_fits};
+ghost use Rattle.web_data.specs.Data.{has_desc};
 ghost use Rattle.web_cache.specs.CacheMachine.{RowsStep};
 ghost use Rattle.web_cache.specs.Shown.{Shown, LooksAs, PutsAs, Reads, found, shown_once};
 
 use crate::same::same_cache;
 use cache_rows::{RowStore, Rows};
-use sml_syntax::{CacheAns, CacheId, CacheOp, Datum, Desc, NoMemory, Text};
+use sml_syntax::{NoMemory, Text};
 use std::alloc::Global;
 use std::marker::Model;
 use value_pickle::{read, write};
+use web_data::{CacheAns, CacheId, CacheOp, Datum, Desc};
 
 /// A cache that stands, with the pickles of its rows. Contracts see the rows of data.
 #[derive(Drop)]

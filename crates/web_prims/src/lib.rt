@@ -2,8 +2,8 @@
 #![tactic(auto)]
 
 ghost use Rattle.std.specs.Prelude.{◌≡◌, ◌<◌, length, position, bytes_eq, option_map, IfOk, IfSome};
-ghost use Rattle.sml_syntax.specs.PreludeText.{prelude_text};
-ghost use Rattle.sml_syntax.specs.BasisTable.{basis_values};
+ghost use Rattle.sml_evaluation.specs.PreludeText.{prelude_text};
+ghost use Rattle.basis_table.specs.BasisTable.{basis_values};
 
 use sml_syntax::{NoMemory, Text};
 use std::alloc::Global;

@@ -1,7 +1,8 @@
 use cache_rows::{RowStore, Rows};
-use sml_syntax::{Kind, Text};
+use sml_syntax::Text;
 use std::io;
 use std::time::Instant;
+use web_data::Kind;
 
 // The bytes of a row: its key and its value have eight each.
 const ROW: u64 = 16;

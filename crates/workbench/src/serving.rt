@@ -1,10 +1,11 @@
 // Connections in memory, answered by a fixed page.
 use conn_serve::{Ended, serve_conn};
-use outside_world::{Answerer, SureConn};
-use sml_syntax::{NoMemory, Refusal, Reply, Request, Text};
+use outside_world::SureConn;
+use sml_syntax::{NoMemory, Text};
 use std::alloc::Global;
 use std::io;
 use std::time::Instant;
+use web_messages::{Answerer, Refusal, Reply, Request};
 
 const REQUEST: &[u8] = b"GET /hello HTTP/1.1\r\nHost: a\r\n\r\n";
 

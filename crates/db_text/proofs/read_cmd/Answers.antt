@@ -1,10 +1,10 @@
 use Rattle.std.proofs.Common.{◌≡◌, inl, inr, ◌+◌, ◌<◌, [], ◌∷◌, length, drop, slice_index_or, refl, ap, sym, ◌∙◌, subst, add-one, arith}
 use Rattle.std.proofs.Math.Seq.{drop-cons}
 use Rattle.std.proofs.lemmas.List.{drop_all}
-use Rattle.sml_syntax.specs.Statements.{Statement}
+use Rattle.web_data.specs.Statements.{Statement}
 use Rattle.db_text.specs.declared.forms.Form.{Form}
 use Rattle.db_text.specs.declared.forms.Form.TheVariants as form
-use Rattle.sml_syntax.specs.StatementReading.{Stops, run}
+use Rattle.web_data.specs.StatementReading.{Stops, run}
 use Rattle.db_text.specs.Answers.{Gives, form_left}
 use Rattle.db_text.proofs.Commands.{AllStop, SomeStops, Sound, forms, sound, found_command, found_place, none_refusal, none_command, none_place, stops_more}
 use Rattle.db_text.proofs.read_cmd.Goals as goal

@@ -81,6 +81,7 @@ impl MData {
         ensures { IfOk result (λ copy. copy ≡ self.now) }
     {
         Ok(MData {
+            declaration: self.declaration,
             params: self.params,
             cons: copy_constructors(alloc, &self.cons)?,
         })

@@ -1,8 +1,8 @@
 use Rattle.std.proofs.Common.{◌≡◌, ◌≤◌, ◌<◌, ℕ, [], ◌∷◌, ◌++◌, List, length, drop, sym, ◌∙◌, ap, subst, append_assoc, append-nil, arith}
 use Rattle.std.proofs.lemmas.List.{drop_all}
 use Rattle.sml_syntax.specs.declared.token.Token.{Token}
-use Rattle.sml_syntax.specs.Tokens.{Program, Lexes, Refuses}
-use Rattle.sml_syntax.specs.Spelling.{OpenQuote}
+use Rattle.grammar_rules.specs.Tokens.{Program, Lexes, Refuses}
+use Rattle.grammar_rules.specs.Spelling.{OpenQuote}
 use Rattle.sml_lex.proofs.MoveSteps.{program_end, quotation_end}
 use Rattle.sml_lex.proofs.cut.Goals as goal
 

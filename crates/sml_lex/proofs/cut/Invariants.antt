@@ -1,7 +1,7 @@
 use Rattle.std.proofs.Common.{◌≤◌, ℕ, ◌-◌, ◌++◌, List, drop, length}
 use Rattle.sml_syntax.specs.declared.token.Token.{Token}
-use Rattle.sml_syntax.specs.Spelling.{Refusal}
-use Rattle.sml_syntax.specs.Tokens.{Program, Lexes, Refuses}
+use Rattle.grammar_rules.specs.Spelling.{Refusal}
+use Rattle.grammar_rules.specs.Tokens.{Program, Lexes, Refuses}
 use Rattle.sml_lex.proofs.cut.Given as goal
 
 -- what the rest comes to, the whole comes to

@@ -1,6 +1,6 @@
 use Rattle.std.proofs.Common.{◌≡◌, ◌<◌, Bool, Option, [], drop, subst, arith}
 use Rattle.sml_syntax.specs.declared.token.TokenForm.{TokenForm}
-use Rattle.sml_syntax.specs.Spelling.{expression, Good}
+use Rattle.grammar_rules.specs.Spelling.{expression, Good}
 use Rattle.sml_lex.specs.Ends.{Ends, EndsBadly}
 use Rattle.sml_lex.specs.Coded.{IfRefused, refusal_of, piece_of}
 use Rattle.sml_lex.specs.Modes.{ends_at_close}

@@ -4,8 +4,8 @@ ghost use Rattle.std.specs.Prelude.{◌≡◌, ◌++◌, ◌∷◌, [], IfOk};
 use crate::{Listed, NoMemory, Text, Ty};
 use std::alloc::Global;
 
-/// What `try_copy` copies, as the copies of lists and pairs see it.
-pub(crate) trait Copied: Sized + Drop {
+/// What `try_copy` copies, as the copies of lists, options and pairs see it.
+pub trait Copied: Sized + Drop {
     fn copied(&self, alloc: Global) -> Result<Self, NoMemory>
         ensures { IfOk result (λ copy. copy ≡ self.now) };
 }
@@ -53,7 +53,8 @@ impl<T: Copied> Copied for Listed<T> {
     }
 }
 
-pub(crate) fn copied_two<A: Copied, B: Copied>(
+/// Copies of two, the first one made first.
+pub fn copied_two<A: Copied, B: Copied>(
     alloc: Global,
     first: &A,
     second: &B,
@@ -64,7 +65,8 @@ pub(crate) fn copied_two<A: Copied, B: Copied>(
     Ok((first, second.copied(alloc)?))
 }
 
-pub(crate) fn copied_three<A: Copied, B: Copied, C: Copied>(
+/// Copies of three, from the first to the last.
+pub fn copied_three<A: Copied, B: Copied, C: Copied>(
     alloc: Global,
     first: &A,
     second: &B,
@@ -77,11 +79,7 @@ pub(crate) fn copied_three<A: Copied, B: Copied, C: Copied>(
 }
 
 /// A copy of `first`, and `second`.
-pub(crate) fn beside<A: Copied, B: Drop>(
-    alloc: Global,
-    first: &A,
-    second: B,
-) -> Result<(A, B), NoMemory>
+pub fn beside<A: Copied, B: Drop>(alloc: Global, first: &A, second: B) -> Result<(A, B), NoMemory>
     ensures { IfOk result (λ pair. pair ≡ (first.now, second)) }
 {
     let first = first.copied(alloc)?;
@@ -89,7 +87,7 @@ pub(crate) fn beside<A: Copied, B: Drop>(
 }
 
 /// The pairs with one more behind them, of a copy of `first` and of `second`.
-pub(crate) fn with_pair<A: Copied, B: Drop>(
+pub fn with_pair<A: Copied, B: Drop>(
     alloc: Global,
     mut pairs: Vec<(A, B)>,
     first: &A,

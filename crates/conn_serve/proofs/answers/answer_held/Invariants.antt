@@ -1,6 +1,6 @@
 use Rattle.std.proofs.Common.{◌≡◌, ◌≤◌, false, List, length}
-use Rattle.sml_syntax.specs.declared.request.Request.{Request}
-use Rattle.sml_syntax.specs.declared.request.Reply.{Reply}
+use Rattle.web_messages.specs.declared.request.Request.{Request}
+use Rattle.web_messages.specs.declared.request.Reply.{Reply}
 use Rattle.conn_serve.specs.Serving.{told_by}
 use Rattle.conn_serve.specs.Steps.{Goes}
 use Rattle.conn_serve.proofs.answers.answer_held.Given as goal

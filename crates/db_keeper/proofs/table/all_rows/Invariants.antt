@@ -1,5 +1,5 @@
 use Rattle.std.proofs.Common.{◌≡◌, ◌++◌, map}
-use Rattle.sml_syntax.specs.DatabaseAnswers.{row_of_entry}
+use Rattle.web_data.specs.DatabaseAnswers.{row_of_entry}
 use Rattle.db_keeper.specs.Shown.{shown, table_of}
 use Rattle.db_keeper.proofs.table.all_rows.Given as goal
 

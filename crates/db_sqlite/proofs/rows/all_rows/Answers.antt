@@ -1,5 +1,5 @@
 use Rattle.std.proofs.Common.{[], ◌∷◌, ◌++◌, refl, ap, sym, ◌∙◌}
-use Rattle.sml_syntax.specs.DatabaseAnswers.{row_of_entry}
+use Rattle.web_data.specs.DatabaseAnswers.{row_of_entry}
 use Rattle.db_sqlite.proofs.Ascending.{Entry, none, behind, one_more, ends, row_more}
 use Rattle.db_sqlite.proofs.rows.all_rows.Goals as goal
 

@@ -1,5 +1,5 @@
 use Rattle.std.proofs.Common.{◌≡◌, List, map}
-use Rattle.sml_syntax.specs.DatabaseAnswers.{KeysAscend, row_of_entry}
+use Rattle.web_data.specs.DatabaseAnswers.{KeysAscend, row_of_entry}
 use Rattle.db_sqlite.proofs.Ascending.{Entry, EndsWith}
 use Rattle.db_sqlite.proofs.rows.all_rows.Given as goal
 

@@ -1,5 +1,5 @@
 use Rattle.std.proofs.Common.{[], subst, sym, IfOk}
-use Rattle.sml_syntax.specs.StatementReading.{run}
+use Rattle.web_data.specs.StatementReading.{run}
 use Rattle.db_text.specs.Answers.{Gives, form_left}
 use Rattle.db_text.proofs.forms.read_form.Goals as goal
 

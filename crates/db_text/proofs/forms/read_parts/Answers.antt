@@ -1,6 +1,6 @@
 use Rattle.std.proofs.Common.{[], ap, ◌∙◌, drop, map}
 use Rattle.std.proofs.lemmas.List.{drop_all}
-use Rattle.sml_syntax.specs.StatementReading.{run}
+use Rattle.web_data.specs.StatementReading.{run}
 use Rattle.db_text.specs.Reading.{left_of}
 use Rattle.db_text.proofs.Scans.{stops_behind}
 use Rattle.db_text.proofs.forms.read_parts.Goals as goal

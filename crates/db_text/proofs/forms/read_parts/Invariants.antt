@@ -1,5 +1,5 @@
 use Rattle.std.proofs.Common.{◌≡◌, ◌≤◌, [], length, drop, map}
-use Rattle.sml_syntax.specs.StatementReading.{run}
+use Rattle.web_data.specs.StatementReading.{run}
 use Rattle.db_text.specs.Reading.{left_of}
 use Rattle.db_text.proofs.forms.read_parts.Given as goal
 

@@ -1,5 +1,5 @@
 use Rattle.std.proofs.Common.{◌≡◌, ◌∷◌, ◌++◌, [], ap, sym, ◌∙◌, drop, arith}
-use Rattle.sml_syntax.specs.StatementReading.{More, run}
+use Rattle.web_data.specs.StatementReading.{More, run}
 use Rattle.db_text.proofs.Scans.{more_over, more_full}
 use Rattle.db_text.proofs.parts.read_name.Goals as goal
 use Rattle.db_text.proofs.parts.read_name.Goals.{then-loop-name-test+else-is_table_byte_at, else-loop-name-test}

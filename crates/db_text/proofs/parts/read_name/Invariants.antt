@@ -1,5 +1,5 @@
 use Rattle.std.proofs.Common.{◌≡◌, ℕ, ◌-◌, ◌≤◌, List, ◌∷◌, length, drop}
-use Rattle.sml_syntax.specs.StatementReading.{Left, Name, More, run}
+use Rattle.web_data.specs.StatementReading.{Left, Name, More, run}
 use Rattle.db_text.proofs.parts.read_name.Given as goal
 
 -- what runs from here behind the name so far runs from its start

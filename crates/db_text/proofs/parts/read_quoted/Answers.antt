@@ -1,5 +1,5 @@
 use Rattle.std.proofs.Common.{◌≡◌, ◌∷◌, ◌++◌, [], ◌+◌, ap, sym, ◌∙◌, drop, arith}
-use Rattle.sml_syntax.specs.StatementReading.{run}
+use Rattle.web_data.specs.StatementReading.{run}
 use Rattle.db_text.proofs.Scans.{inside_at, shut_over}
 use Rattle.db_text.proofs.parts.read_quoted.Goals as goal
 

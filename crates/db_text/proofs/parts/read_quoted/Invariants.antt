@@ -1,5 +1,5 @@
 use Rattle.std.proofs.Common.{◌≡◌, ℕ, ◌-◌, ◌≤◌, List, ◌∷◌, length, drop}
-use Rattle.sml_syntax.specs.StatementReading.{Left, Quoted, Inside, run}
+use Rattle.web_data.specs.StatementReading.{Left, Quoted, Inside, run}
 use Rattle.db_text.proofs.parts.read_quoted.Given as goal
 
 -- what runs from here behind the text so far runs from its first quote

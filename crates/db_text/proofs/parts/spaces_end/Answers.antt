@@ -1,5 +1,5 @@
 use Rattle.std.proofs.Common.{sym, ◌∙◌, arith}
-use Rattle.sml_syntax.specs.Statements.{is_space}
+use Rattle.web_data.specs.Statements.{is_space}
 use Rattle.db_text.proofs.Scans.{stands, spaces_at, spaces_over}
 use Rattle.db_text.proofs.parts.spaces_end.Goals as goal
 

@@ -1,5 +1,5 @@
 use Rattle.std.proofs.Common.{◌≡◌, ℕ, ◌-◌, ◌≤◌, List, ◌∷◌, length, drop}
-use Rattle.sml_syntax.specs.StatementReading.{Left, Spaces, run}
+use Rattle.web_data.specs.StatementReading.{Left, Spaces, run}
 use Rattle.db_text.proofs.parts.spaces_end.Given as goal
 
 -- what runs from here runs from the first space

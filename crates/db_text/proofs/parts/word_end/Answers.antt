@@ -1,6 +1,6 @@
 use Rattle.std.proofs.Common.{◌∷◌, ap, ◌∙◌, drop}
 use Rattle.std.proofs.lemmas.List.{drop_all}
-use Rattle.sml_syntax.specs.StatementReading.{Word, run}
+use Rattle.web_data.specs.StatementReading.{Word, run}
 use Rattle.db_text.proofs.Scans.{word_over}
 use Rattle.db_text.proofs.parts.word_end.Goals as goal
 

@@ -1,5 +1,5 @@
 use Rattle.std.proofs.Common.{◌≡◌, ℕ, ◌≤◌, List, ◌∷◌, length, drop}
-use Rattle.sml_syntax.specs.StatementReading.{Left, Word, run}
+use Rattle.web_data.specs.StatementReading.{Left, Word, run}
 use Rattle.db_text.proofs.parts.word_end.Given as goal
 
 -- what runs from here with the rest of the word runs from its start

@@ -1,5 +1,5 @@
 use Rattle.std.proofs.Common.{rules, ◌≡◌, ◌≤◌, true, ap, sym, ◌∙◌}
-use Rattle.sml_syntax.specs.CacheCalls.{cache_call_fits}
+use Rattle.web_data.specs.CacheCalls.{cache_call_fits}
 use Rattle.web_cache.specs.CacheMachine.{group_number, last_moment}
 use Rattle.history_core.proofs.Fitting.{answer-fits}
 use Rattle.history_check.proofs.Trying.{cache-tried, ok-both}

@@ -1,5 +1,5 @@
 use Rattle.std.proofs.Common.{rules, ◌≡◌, true, sym, ◌∙◌}
-use Rattle.sml_syntax.specs.Data.{has_desc}
+use Rattle.web_data.specs.Data.{has_desc}
 use Rattle.value_pickle.proofs.OneForm.{equal_pickles}
 use Rattle.history_check.proofs.same.same_datum.Goals as goal
 

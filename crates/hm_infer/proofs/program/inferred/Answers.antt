@@ -1,5 +1,5 @@
 use Rattle.std.proofs.Common.{◌≡◌, sym, ap, subst, length, []}
-use Rattle.sml_syntax.specs.Scope.{IsOneOf}
+use Rattle.typing_rules.specs.Scope.{IsOneOf}
 use Rattle.hm_infer.specs.declared.refusal.TypeRefusal.TheVariants.{Ill}
 use Rattle.hm_infer.specs.Numbering.{AllNumbered, numbered_end, a_dec}
 use Rattle.hm_infer.proofs.Numberings.{numbered-next}

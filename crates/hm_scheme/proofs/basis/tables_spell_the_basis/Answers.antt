@@ -1,5 +1,5 @@
 use Rattle.std.proofs.Common.{refl}
-use Rattle.sml_syntax.specs.BasisTable.{scheme_list, length_of}
+use Rattle.basis_table.specs.BasisTable.{scheme_list, length_of}
 use Rattle.hm_scheme.proofs.basis.tables_spell_the_basis.Goals as goal
 
 pub returns-clause-constants : goal.returns-clause-constants

@@ -1,6 +1,6 @@
 use Rattle.std.proofs.Common.{◌++◌, ◌∷◌, [], take, sym, ap, ◌∙◌}
 use Rattle.std.proofs.lemmas.List.{take_more}
-use Rattle.sml_syntax.specs.Scope.{constructor_names, first_parts}
+use Rattle.typing_rules.specs.Scope.{constructor_names, first_parts}
 use Rattle.hm_scope.proofs.Declarations.{constructors-end}
 use Rattle.hm_scope.proofs.declaration.constructor_names.Goals as goal
 

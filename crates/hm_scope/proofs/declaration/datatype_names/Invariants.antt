@@ -1,5 +1,5 @@
 use Rattle.std.proofs.Common.{◌≡◌, take}
-use Rattle.sml_syntax.specs.Scope.{datatype_names}
+use Rattle.typing_rules.specs.Scope.{datatype_names}
 use Rattle.hm_scope.proofs.declaration.datatype_names.Given as goal
 
 abbrev pub invariant-loop-bind : goal.invariant-loop-bind

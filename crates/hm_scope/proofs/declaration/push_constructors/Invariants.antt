@@ -1,5 +1,5 @@
 use Rattle.std.proofs.Common.{◌≡◌, ◌++◌, take}
-use Rattle.sml_syntax.specs.Scope.{first_parts}
+use Rattle.typing_rules.specs.Scope.{first_parts}
 use Rattle.hm_scope.proofs.declaration.push_constructors.Given as goal
 
 abbrev pub invariant-loop-constructor : goal.invariant-loop-constructor

@@ -1,5 +1,5 @@
 use Rattle.std.proofs.Common.{◌≡◌, drop}
-use Rattle.sml_syntax.specs.Scope.{has_name}
+use Rattle.typing_rules.specs.Scope.{has_name}
 use Rattle.hm_scope.proofs.written.is_among.Given as goal
 
 abbrev pub invariant-loop-other : goal.invariant-loop-other

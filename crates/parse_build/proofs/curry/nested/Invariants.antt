@@ -1,5 +1,5 @@
 use Rattle.std.proofs.Common.{◌≡◌, ◌-◌}
-use Rattle.sml_syntax.specs.Nodes.{nested}
+use Rattle.grammar_rules.specs.Nodes.{nested}
 use Rattle.parse_build.proofs.curry.nested.Given as goal
 
 abbrev pub invariant-loop-number : goal.invariant-loop-number

@@ -1,5 +1,5 @@
 use Rattle.std.proofs.Common.{◌≡◌, ◌-◌, ◌≤◌}
-use Rattle.sml_syntax.specs.Nodes.{numbers}
+use Rattle.grammar_rules.specs.Nodes.{numbers}
 use Rattle.parse_build.proofs.curry.numbers.Given as goal
 
 abbrev pub invariant-loop-number : goal.invariant-loop-number

@@ -1,5 +1,5 @@
 use Rattle.std.proofs.Common.{◌≤◌, ◌++◌, ap, sym, ◌∙◌, subst, append-nil}
-use Rattle.sml_syntax.specs.Page.{all_decs}
+use Rattle.sml_evaluation.specs.Page.{all_decs}
 use Rattle.script_loader.proofs.Programs.{no_libraries}
 use Rattle.script_loader.proofs.scripts.add_libraries.Goals as goal
 

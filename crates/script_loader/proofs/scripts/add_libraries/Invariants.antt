@@ -1,5 +1,5 @@
 use Rattle.std.proofs.Common.{◌≡◌, ◌++◌, drop}
-use Rattle.sml_syntax.specs.Page.{all_decs}
+use Rattle.sml_evaluation.specs.Page.{all_decs}
 use Rattle.script_loader.specs.Places.{of_libraries}
 use Rattle.script_loader.proofs.scripts.add_libraries.Given as goal
 

@@ -1,5 +1,5 @@
 use Rattle.std.proofs.Common.{subst}
-use Rattle.sml_syntax.specs.Tokens.{HasTokens}
+use Rattle.grammar_rules.specs.Tokens.{HasTokens}
 use Rattle.script_loader.proofs.Places.{may_move}
 use Rattle.script_loader.proofs.tokens.lex_text.Goals as goal
 

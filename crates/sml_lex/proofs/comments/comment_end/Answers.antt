@@ -1,5 +1,5 @@
 use Rattle.std.proofs.Common.{◌≡◌, ◌+◌, ◌≤◌, sym, ◌∙◌, arith, get_or}
-use Rattle.sml_syntax.specs.Spelling.{comment, Refused, OpenComment, Good, Blank, before_behind, depth_behind}
+use Rattle.grammar_rules.specs.Spelling.{comment, Refused, OpenComment, Good, Blank, before_behind, depth_behind}
 use Rattle.sml_lex.specs.Coded.{before_as}
 use Rattle.sml_lex.proofs.Steps.{step_at, last_at, end_at}
 use Rattle.sml_lex.proofs.CommentSteps.{comment_goes, comment_shuts, comment_open, depth_grows}

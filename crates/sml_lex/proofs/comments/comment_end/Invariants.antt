@@ -1,5 +1,5 @@
 use Rattle.std.proofs.Common.{◌≡◌, ◌≤◌, ℕ, ◌+◌, ◌-◌, drop, length}
-use Rattle.sml_syntax.specs.Spelling.{Reading, comment, Other_byte}
+use Rattle.grammar_rules.specs.Spelling.{Reading, comment, Other_byte}
 use Rattle.sml_lex.specs.Ends.{Ends}
 use Rattle.sml_lex.specs.Coded.{before_as}
 use Rattle.sml_lex.proofs.comments.comment_end.Given as goal

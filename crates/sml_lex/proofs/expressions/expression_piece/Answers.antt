@@ -1,7 +1,7 @@
 use Rattle.std.proofs.Common.{◌≡◌, ℕ, List, [], ◌∷◌, ◌+◌, ◌<◌, ◌≤◌, false, get_or, refl, sym, ap, ◌∙◌}
 use Rattle.sml_syntax.specs.declared.token.Lack.TheVariants as lack
-use Rattle.sml_syntax.specs.Spelling as spell
-use Rattle.sml_syntax.specs.Spelling.{names, numbers, behind_tilde, behind_hash, symbols, literal, TextOf, behind_open, behind_dot, close_form, is, BadByte, Unsupported}
+use Rattle.grammar_rules.specs.Spelling as spell
+use Rattle.grammar_rules.specs.Spelling.{names, numbers, behind_tilde, behind_hash, symbols, literal, TextOf, behind_open, behind_dot, close_form, is, BadByte, Unsupported}
 use Rattle.sml_lex.specs.Coded.{class_as, variable, mark_of}
 use Rattle.sml_lex.proofs.ExpressionSteps.{by_class, by_byte, bad_byte}
 use Rattle.sml_lex.proofs.expressions.expression_piece.Goals as goal

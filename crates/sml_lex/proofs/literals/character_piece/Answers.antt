@@ -1,6 +1,6 @@
 use Rattle.std.proofs.Common.{◌≡◌, ◌≢◌, ◌+◌, ◌<◌, ◌≤◌, refl, arith, get_or}
 use Rattle.std.proofs.lemmas.Bool.Decides.{nat_tests}
-use Rattle.sml_syntax.specs.Spelling.{Char, BadByte, Unsupported}
+use Rattle.grammar_rules.specs.Spelling.{Char, BadByte, Unsupported}
 use Rattle.sml_syntax.specs.declared.token.Lack.TheVariants as lack
 use Rattle.sml_lex.proofs.LiteralSteps.{lit_end, at_mark, at_back_bad, character_low, character_high, gives_fit, gives_back}
 use Rattle.sml_lex.proofs.literals.character_piece.Goals as goal

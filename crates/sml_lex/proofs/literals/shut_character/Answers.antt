@@ -1,5 +1,5 @@
 use Rattle.std.proofs.Common.{◌≡◌, ◌≢◌, ◌+◌, ◌<◌, ◌≤◌, arith}
-use Rattle.sml_syntax.specs.Spelling.{CharOf}
+use Rattle.grammar_rules.specs.Spelling.{CharOf}
 use Rattle.sml_lex.proofs.LiteralSteps.{lit_end, at_mark, character_full}
 use Rattle.sml_lex.proofs.literals.shut_character.Goals as goal
 

@@ -1,5 +1,5 @@
 use Rattle.std.proofs.Common.{◌≡◌, ◌+◌, ◌<◌, ◌≤◌, arith}
-use Rattle.sml_syntax.specs.Spelling.{Refused, Refusal, OpenString, TextOf, literal}
+use Rattle.grammar_rules.specs.Spelling.{Refused, Refusal, OpenString, TextOf, literal}
 use Rattle.sml_lex.specs.Ends.{EndsBadly}
 use Rattle.sml_lex.specs.Coded.{refusal_of}
 use Rattle.sml_lex.proofs.Steps.{if_refused}

@@ -1,5 +1,5 @@
 use Rattle.std.proofs.Common.{◌≡◌, ◌≤◌, ℕ, ◌+◌, ◌-◌, [], drop, length}
-use Rattle.sml_syntax.specs.Spelling.{Reading, literal, TextOf}
+use Rattle.grammar_rules.specs.Spelling.{Reading, literal, TextOf}
 use Rattle.sml_lex.specs.Ends.{Ends}
 use Rattle.sml_lex.proofs.literals.text_piece.Given as goal
 

@@ -1,6 +1,6 @@
 use Rattle.std.proofs.Common.{◌≡◌, ◌≢◌, ◌+◌, ◌<◌, ◌≤◌, refl, arith, get_or}
 use Rattle.std.proofs.lemmas.Bool.Decides.{nat_tests}
-use Rattle.sml_syntax.specs.Spelling.{TextOf, OpenString, BadByte, Unsupported}
+use Rattle.grammar_rules.specs.Spelling.{TextOf, OpenString, BadByte, Unsupported}
 use Rattle.sml_syntax.specs.declared.token.Lack.TheVariants as lack
 use Rattle.sml_lex.proofs.LiteralSteps.{at_mark, at_back, at_back_bad, at_fit, text_low, text_line}
 use Rattle.sml_lex.proofs.literals.text_turn.Goals as goal

@@ -1,6 +1,6 @@
 use Rattle.std.proofs.Common.{◌≡◌, ◌+◌, ◌<◌, ◌≤◌, ◌∷◌, [], List, ℕ, drop, get_or, subst, arith, refl, sym, ◌∙◌}
 use Rattle.std.specs.List.{slice_range}
-use Rattle.sml_syntax.specs.Spelling.{names, named, is_name_byte}
+use Rattle.grammar_rules.specs.Spelling.{names, named, is_name_byte}
 use Rattle.sml_lex.specs.Ends.{Ends}
 use Rattle.sml_lex.proofs.Steps.{slice_none}
 use Rattle.sml_lex.proofs.Runs.{run_stops}

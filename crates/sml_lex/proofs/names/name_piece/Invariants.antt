@@ -1,6 +1,6 @@
 use Rattle.std.proofs.Common.{◌≡◌, ◌≤◌, ◌<◌, ℕ, List, ◌+◌, ◌-◌, [], ◌∷◌, drop, length, get_or, false}
 use Rattle.std.specs.List.{slice_range}
-use Rattle.sml_syntax.specs.Spelling.{Reading, names, is_name_byte}
+use Rattle.grammar_rules.specs.Spelling.{Reading, names, is_name_byte}
 use Rattle.sml_lex.specs.Ends.{Ends}
 use Rattle.sml_lex.proofs.names.name_piece.Given as goal
 

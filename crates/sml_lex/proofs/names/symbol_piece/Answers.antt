@@ -1,6 +1,6 @@
 use Rattle.std.proofs.Common.{◌≡◌, ◌+◌, ◌<◌, ◌≤◌, ◌∷◌, [], List, ℕ, drop, get_or, ap, subst, arith, refl, sym, ◌∙◌}
 use Rattle.std.specs.List.{slice_range}
-use Rattle.sml_syntax.specs.Spelling.{alone, symbol_kind, symbols}
+use Rattle.grammar_rules.specs.Spelling.{alone, symbol_kind, symbols}
 use Rattle.sml_lex.specs.Ends.{Ends}
 use Rattle.sml_lex.specs.Coded.{GivesReading}
 use Rattle.sml_lex.proofs.Steps.{slice_first}

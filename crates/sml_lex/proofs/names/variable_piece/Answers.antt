@@ -1,6 +1,6 @@
 use Rattle.std.proofs.Common.{◌≡◌, ◌+◌, ◌<◌, ◌≤◌, ◌∷◌, [], List, ℕ, drop, get_or, subst, arith, refl, sym, ◌∙◌}
 use Rattle.sml_syntax.specs.declared.token.TokenForm.TheVariants as form
-use Rattle.sml_syntax.specs.Spelling.{is}
+use Rattle.grammar_rules.specs.Spelling.{is}
 use Rattle.sml_lex.specs.Ends.{Ends}
 use Rattle.sml_lex.specs.Coded.{variable}
 use Rattle.sml_lex.proofs.Steps.{slice_first}

@@ -1,5 +1,5 @@
 use Rattle.std.proofs.Common.{◌≡◌, ◌≤◌, ◌^◌, drop}
-use Rattle.sml_syntax.specs.Spelling.{decimal_from}
+use Rattle.grammar_rules.specs.Spelling.{decimal_from}
 use Rattle.sml_lex.proofs.numbers.distance.Given as goal
 
 abbrev pub invariant-loop-d : goal.invariant-loop-d

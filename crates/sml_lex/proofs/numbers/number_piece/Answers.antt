@@ -2,7 +2,7 @@ use Rattle.std.proofs.Common.{◌≡◌, ℤ, ◌+◌, ◌<◌, ◌≤◌, ◌�
 use Rattle.std.specs.List.{slice_range}
 use Rattle.std.proofs.lemmas.List.{take_rest}
 use Rattle.sml_syntax.specs.declared.token.TokenForm.TheVariants as form
-use Rattle.sml_syntax.specs.Spelling.{numbers, is, Refused, WideNumber}
+use Rattle.grammar_rules.specs.Spelling.{numbers, is, Refused, WideNumber}
 use Rattle.sml_lex.specs.Ends.{Ends}
 use Rattle.sml_lex.specs.Coded.{lack_begun}
 use Rattle.sml_lex.proofs.NumberSteps.{number_refused, number_whole}

@@ -1,6 +1,6 @@
 use Rattle.std.proofs.Common.{◌++◌, sym, ap, subst, ◌∙◌}
 use Rattle.std.proofs.lemmas.Result.{err_from_is_err_and}
-use Rattle.sml_syntax.specs.Pickles.{bool_pickle}
+use Rattle.web_data.specs.Pickles.{bool_pickle}
 use Rattle.value_pickle.specs.Halting.{ReadsItems}
 use Rattle.value_pickle.proofs.Wholes.{ItemsRead, halts_int, halts_bool, halts_char, halts_str, halts_pair_first, halts_pair_second, halts_triple_first, halts_triple_second, halts_triple_third, halts_opt_flag, halts_opt_value, halts_list, halts_first_flag, halts_in_item, halts_behind_item, items_start, items_next, items_end, reads_pair, reads_triple, reads_some, less_left, reads_with, halts_with}
 use Rattle.value_pickle.proofs.reading.+reading.Goals as goal

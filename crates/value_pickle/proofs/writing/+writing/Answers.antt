@@ -1,6 +1,6 @@
 use Rattle.std.proofs.Common.{◌++◌, ◌∷◌, [], sym, ap, ◌∙◌, arith}
-use Rattle.sml_syntax.specs.declared.datum.Datum.TheVariants as datum
-use Rattle.sml_syntax.specs.Pickles.{pickle}
+use Rattle.web_data.specs.declared.datum.Datum.TheVariants as datum
+use Rattle.web_data.specs.Pickles.{pickle}
 use Rattle.value_pickle.proofs.Items.{all_items}
 use Rattle.value_pickle.proofs.Layers.{pickle_list}
 use Rattle.value_pickle.proofs.writing.+writing.Goals as goal

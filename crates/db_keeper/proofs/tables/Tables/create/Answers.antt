@@ -1,5 +1,5 @@
 use Rattle.std.proofs.Common.{ap, sym, ◌∙◌, true, false}
-use Rattle.sml_syntax.specs.declared.database.DbAns.TheVariants as ans
+use Rattle.web_data.specs.declared.database.DbAns.TheVariants as ans
 use Rattle.db_keeper.specs.DatabaseMachine.{effect}
 use Rattle.db_keeper.proofs.Maps.{asked, table-stands, table-new, if_so, if_not}
 use Rattle.db_keeper.proofs.tables.Tables.create.Goals as goal

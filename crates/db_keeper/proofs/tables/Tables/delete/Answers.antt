@@ -1,6 +1,6 @@
 use Rattle.std.proofs.Common.{ap, sym, ◌∙◌}
 use Rattle.std.specs.Option.{option_copied_mut}
-use Rattle.sml_syntax.specs.declared.database.DbAns.TheVariants as ans
+use Rattle.web_data.specs.declared.database.DbAns.TheVariants as ans
 use Rattle.db_keeper.specs.DatabaseMachine.{effect}
 use Rattle.db_keeper.specs.Shown.{tables_of}
 use Rattle.db_keeper.proofs.Maps.{looked, set_by}

@@ -1,5 +1,5 @@
 use Rattle.std.proofs.Common.{ap, sym, ◌∙◌}
-use Rattle.sml_syntax.specs.declared.database.DbAns.TheVariants as ans
+use Rattle.web_data.specs.declared.database.DbAns.TheVariants as ans
 use Rattle.db_keeper.specs.DatabaseMachine.{effect}
 use Rattle.db_keeper.proofs.Maps.{looked}
 use Rattle.db_keeper.proofs.Commands.{no_table, at_table}

@@ -1,5 +1,5 @@
 use Rattle.std.proofs.Common.{ap, subst, length, map}
-use Rattle.sml_syntax.specs.Scope.{pat_parts}
+use Rattle.typing_rules.specs.Scope.{pat_parts}
 use Rattle.hm_infer.specs.Numbering.{Numbered, numbered_end, a_pat}
 use Rattle.hm_infer.proofs.Forms.{pat-any, pat-int, pat-char, pat-str, pat-unit, pat-name, pat-con, pat-typed}
 use Rattle.hm_infer.proofs.Numberings.{numbered-tree, numbered-as, numbered-one, numbered-next, on_ok-of}

@@ -1,6 +1,6 @@
 use Rattle.std.proofs.Common.{◌++◌, ◌∷◌, [], subst, sym, ap, ◌∙◌}
 use Rattle.std.proofs.lemmas.Result.{on_ok_weaker}
-use Rattle.sml_syntax.specs.Scope.{status, pat_name, pat_parts}
+use Rattle.typing_rules.specs.Scope.{status, pat_name, pat_parts}
 use Rattle.hm_scope.proofs.Forms.{pat-con, pat-typed, pat-name}
 use Rattle.hm_scope.proofs.Names.{Grows, GrowsAll, grows-parts, grows-nothing, grows-leaf, grows-part, grows-next, grows-name, grows-constructor, is-variable, not-constructor, a-constructor, known-constructor, leaf, listed}
 use Rattle.hm_scope.proofs.search.Search.+bound.Goals as goal

@@ -1,5 +1,5 @@
 use Rattle.std.proofs.Common.{◌≡◌, ◌++◌, take, ℕ, List}
-use Rattle.sml_syntax.specs.Scope.{BindsAll}
+use Rattle.typing_rules.specs.Scope.{BindsAll}
 use Rattle.hm_scope.proofs.search.Search.+bound.Given as goal
 
 abbrev pub invariant-bound_all-loop-p : goal.invariant-bound_all-loop-p

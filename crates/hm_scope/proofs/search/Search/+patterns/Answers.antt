@@ -1,5 +1,5 @@
 use Rattle.std.proofs.Common.{arith, ◌≡◌, subst, sym, ap, ◌∙◌}
-use Rattle.sml_syntax.specs.Scope.{UnboundInPat, status}
+use Rattle.typing_rules.specs.Scope.{UnboundInPat, status}
 use Rattle.hm_scope.specs.Least.{Sees}
 use Rattle.hm_scope.proofs.Leasts.{seen-as, sees-next, sees-whole}
 use Rattle.hm_scope.proofs.Leasts.{none_of, not_none}

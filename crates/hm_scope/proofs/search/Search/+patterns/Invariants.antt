@@ -1,5 +1,5 @@
 use Rattle.std.proofs.Common.{take}
-use Rattle.sml_syntax.specs.Scope.{UnboundInPat}
+use Rattle.typing_rules.specs.Scope.{UnboundInPat}
 use Rattle.hm_scope.specs.Least.{Sees, Some_of}
 use Rattle.hm_scope.proofs.search.Search.+patterns.Given as goal
 

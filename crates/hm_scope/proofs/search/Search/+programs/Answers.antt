@@ -1,7 +1,7 @@
 use Rattle.std.proofs.Common.{arith, ◌++◌, ◌+◌, length, take, [], subst, sym, ap, ◌∙◌}
 use Rattle.std.proofs.lemmas.List.{length-append, take_all}
 use Rattle.std.proofs.lemmas.Result.{on_ok_weaker}
-use Rattle.sml_syntax.specs.Scope.{status, Binds, BindsAll, binds_end, UnboundInExp, UnboundInRule, inside, variables_only, as_variables, antiquoted, first_parts}
+use Rattle.typing_rules.specs.Scope.{status, Binds, BindsAll, binds_end, UnboundInExp, UnboundInRule, inside, variables_only, as_variables, antiquoted, first_parts}
 use Rattle.hm_scope.specs.Least.{Sees, Some_of, SeesDecs, SeesAbbreviations, SeesDatatypes, SeesExceptions}
 use Rattle.hm_scope.proofs.Leasts.{seen-as, sees-next, sees-whole, sees-nil, none_of, not_none}
 use Rattle.hm_scope.proofs.Forms.{exp-name, exp-let, exp-fn, exp-raise, exp-if, exp-quote, exp-typed, dec-val, dec-valrec, dec-abbrev, dec-datadef, dec-exndef, dec-local, piece-plain, piece-anti}

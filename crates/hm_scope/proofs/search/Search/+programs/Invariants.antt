@@ -1,5 +1,5 @@
 use Rattle.std.proofs.Common.{take}
-use Rattle.sml_syntax.specs.Scope.{UnboundInExp, UnboundInRule, BindsAll, antiquoted, first_parts}
+use Rattle.typing_rules.specs.Scope.{UnboundInExp, UnboundInRule, BindsAll, antiquoted, first_parts}
 use Rattle.hm_scope.specs.Least.{Sees, Some_of, SeesDecs}
 use Rattle.hm_scope.proofs.Declarations.{InBinding, FunctionsSeen}
 use Rattle.hm_scope.proofs.search.Search.+programs.Given as goal

@@ -1,5 +1,5 @@
 use Rattle.std.proofs.Common.{arith, ◌≡◌, subst, sym, ap, ◌∙◌}
-use Rattle.sml_syntax.specs.Scope.{UnboundInType, has_name}
+use Rattle.typing_rules.specs.Scope.{UnboundInType, has_name}
 use Rattle.hm_scope.specs.Least.{Sees, Some_of}
 use Rattle.hm_scope.proofs.Leasts.{seen-as, sees-next, sees-whole}
 use Rattle.hm_scope.proofs.Forms.{ty-var, ty-con, ty-tuple, ty-arrow}

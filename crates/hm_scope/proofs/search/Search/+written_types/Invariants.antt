@@ -1,5 +1,5 @@
 use Rattle.std.proofs.Common.{take}
-use Rattle.sml_syntax.specs.Scope.{UnboundInType}
+use Rattle.typing_rules.specs.Scope.{UnboundInType}
 use Rattle.hm_scope.specs.Least.{Sees, Some_of}
 use Rattle.hm_scope.proofs.search.Search.+written_types.Given as goal
 

@@ -1,5 +1,5 @@
 use Rattle.std.proofs.Common.{arith, subst}
-use Rattle.sml_syntax.specs.Scope.{TypeBinding, UnboundInType}
+use Rattle.typing_rules.specs.Scope.{TypeBinding, UnboundInType}
 use Rattle.hm_scope.specs.Least.{Sees}
 use Rattle.hm_scope.proofs.Leasts.{sees-next, sees-whole}
 use Rattle.hm_scope.proofs.search.Search.abbreviations.Goals as goal

@@ -1,5 +1,5 @@
 use Rattle.std.proofs.Common.{take}
-use Rattle.sml_syntax.specs.Scope.{TypeBinding, UnboundInType}
+use Rattle.typing_rules.specs.Scope.{TypeBinding, UnboundInType}
 use Rattle.hm_scope.specs.Least.{Sees, Some_of}
 use Rattle.hm_scope.proofs.search.Search.abbreviations.Given as goal
 

@@ -1,5 +1,5 @@
 use Rattle.std.proofs.Common.{◌++◌, ap, ◌∙◌}
-use Rattle.sml_syntax.specs.Scope.{as_constructors}
+use Rattle.typing_rules.specs.Scope.{as_constructors}
 use Rattle.hm_scope.proofs.Declarations.{sees-datatypes}
 use Rattle.hm_scope.proofs.search.Search.datatype_group.Goals as goal
 

@@ -1,5 +1,5 @@
 use Rattle.std.proofs.Common.{arith, subst}
-use Rattle.sml_syntax.specs.Scope.{DatatypeBinding}
+use Rattle.typing_rules.specs.Scope.{DatatypeBinding}
 use Rattle.hm_scope.specs.Least.{Sees, InArguments}
 use Rattle.hm_scope.proofs.Leasts.{sees-next, sees-whole}
 use Rattle.hm_scope.proofs.search.Search.datatypes.Goals as goal

@@ -1,5 +1,5 @@
 use Rattle.std.proofs.Common.{take}
-use Rattle.sml_syntax.specs.Scope.{DatatypeBinding}
+use Rattle.typing_rules.specs.Scope.{DatatypeBinding}
 use Rattle.hm_scope.specs.Least.{Sees, Some_of, InArguments}
 use Rattle.hm_scope.proofs.search.Search.datatypes.Given as goal
 

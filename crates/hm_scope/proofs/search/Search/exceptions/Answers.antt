@@ -1,5 +1,5 @@
 use Rattle.std.proofs.Common.{◌++◌, ap, ◌∙◌}
-use Rattle.sml_syntax.specs.Scope.{as_constructors, first_parts}
+use Rattle.typing_rules.specs.Scope.{as_constructors, first_parts}
 use Rattle.hm_scope.proofs.Declarations.{sees-exceptions}
 use Rattle.hm_scope.proofs.search.Search.exceptions.Goals as goal
 

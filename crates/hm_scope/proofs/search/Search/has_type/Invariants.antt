@@ -1,5 +1,5 @@
 use Rattle.std.proofs.Common.{◌≡◌, ◌≤◌, take, reverse, length}
-use Rattle.sml_syntax.specs.Scope.{has_name}
+use Rattle.typing_rules.specs.Scope.{has_name}
 use Rattle.hm_scope.proofs.search.Search.has_type.Given as goal
 
 abbrev pub invariant-loop-left : goal.invariant-loop-left

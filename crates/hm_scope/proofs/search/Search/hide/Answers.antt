@@ -1,6 +1,6 @@
 use Rattle.std.proofs.Common.{min, ap, ◌∙◌}
 use Rattle.hm_scope.proofs.Scopes.{hide-steps, seen-made}
-use Rattle.sml_syntax.specs.Scope.{inside}
+use Rattle.typing_rules.specs.Scope.{inside}
 use Rattle.hm_scope.proofs.search.Search.hide.Goals as goal
 
 pub returns : goal.returns

@@ -1,5 +1,5 @@
 use Rattle.std.proofs.Common.{◌≡◌, ◌≤◌, take, reverse, length}
-use Rattle.sml_syntax.specs.Scope.{status}
+use Rattle.typing_rules.specs.Scope.{status}
 use Rattle.hm_scope.proofs.search.Search.status.Given as goal
 
 abbrev pub invariant-loop-left : goal.invariant-loop-left

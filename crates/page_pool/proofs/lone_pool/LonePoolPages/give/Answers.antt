@@ -1,7 +1,7 @@
 use Rattle.std.proofs.Common.{◌<◌, sym, ap, subst, ◌∙◌, arith}
 use Rattle.page_pool.specs.Holding.{times, GivesPage}
 use Rattle.page_pool.specs.Lone.{LonePages, AreOnce, lone_holding}
-use Rattle.page_pool.specs.Kept.{numbers}
+use Rattle.page_pool.specs.PageWords.{numbers}
 use Rattle.page_pool.specs.PageWords.{number_of}
 use Rattle.page_pool.proofs.Lone.{AreOnce_push, few_free, numbers-push, each_once, length-numbers, given, with_free}
 use Rattle.page_pool.proofs.lone_pool.LonePoolPages.give.Goals as goal
@@ -20,6 +20,7 @@ invariant_of-self c =
     record {
       once = subst (AreOnce c.self.inside.made) (sym (ap numbers c.push_reserved.ensures.items ∙ numbers-push all c.args.page)) (AreOnce_push _ _ _ c.self.invariant.once out);
       room = omega arith;
+      full = c.self.invariant.full;
     }
 
 pub returns : goal.returns
@@ -33,5 +34,6 @@ returns c =
     let new : LonePages = record old { free = numbers c.push_reserved.new.self.items } in
     record {
       given = subst (λ (p : LonePages). GivesPage (lone_holding p) (number_of c.args.page) (lone_holding new)) c.self.view_is (given old new _ once (ap (with_free old) e));
+      full = c.self.invariant.full;
       each = each_once new (subst (AreOnce i.made) (sym e) once);
     }

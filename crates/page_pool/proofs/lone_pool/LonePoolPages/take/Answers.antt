@@ -2,9 +2,9 @@ use Rattle.std.proofs.Common.{◌≡◌, ◌-◌, max, [], length, sym, ap, subs
 use Rattle.std.proofs.lemmas.List.{nil_from_length, append-nil}
 use Rattle.page_pool.specs.Holding.{TakesPage, FindsNone}
 use Rattle.page_pool.specs.Lone.{LonePages, lone_holding}
-use Rattle.page_pool.specs.Kept.{numbers}
+use Rattle.page_pool.specs.PageWords.{numbers}
 use Rattle.page_pool.specs.PageWords.{number_of}
-use Rattle.page_pool.proofs.Lone.{AreOnce_front, numbers-push, each_once, length-numbers, popped, taken, found_none, length-out, with_peak}
+use Rattle.page_pool.proofs.Lone.{AreOnce_front, numbers-push, each_once, length-numbers, popped, taken, found_none, full_low, length-out, with_peak}
 use Rattle.page_pool.proofs.lone_pool.LonePoolPages.take.Goals as goal
 
 pub overflow_sub-out : goal.overflow_sub-out
@@ -23,6 +23,7 @@ pub invariant_of-self : goal.invariant_of-self
 invariant_of-self c = record {
   once = AreOnce_front _ _ _ (popped _ _ _ _ c.in-Some.ensures.items c.self.invariant.once);
   room = omega arith;
+  full = c.self.invariant.full;
 }
 
 pub returns-in-Some-clause-taken : goal.returns-in-Some-clause-taken
@@ -49,6 +50,6 @@ returns-in-None-clause-dry c =
     let none : i.free.items ≡ [] = nil_from_length i.free.items (omega (arith, c.in-None.ensures.cases.0, i.free.ok.0)) in
     let rest : c.pop.new.self.items ≡ i.free.items = sym (append-nil c.pop.new.self.items) ∙ sym c.in-None.ensures.items in
     let old : LonePages = record { free = numbers i.free.items; made = i.made; peak = i.peak; low = i.low; dries = i.dries } in
-    let new : LonePages = record old { free = numbers c.pop.new.self.items; low = Some c.least.result; dries = c.saturating_add-self-inside.result } in
+    let new : LonePages = record old { free = numbers c.pop.new.self.items; low = Some i.made; dries = c.saturating_add-self-inside.result } in
     subst (λ (p : LonePages). FindsNone (lone_holding p) (lone_holding new)) c.self.view_is
-    (found_none old new c.self.invariant.once (ap numbers none) (ap numbers rest) refl refl (ap Some c.least.ensures) c.saturating_add-self-inside.ensures)
+    (found_none old new c.self.invariant.once (ap numbers none) (ap numbers rest) refl refl (full_low i.low i.made c.self.invariant.full) c.saturating_add-self-inside.ensures)

@@ -1,0 +1,6 @@
+pub mod Spelling
+pub mod Tokens
+pub mod InfixNames
+pub mod Nodes
+pub mod Grammar
+pub mod Programs

@@ -1,9 +1,0 @@
-use Rattle.std.proofs.Common.{arith}
-use Rattle.kam_store.proofs.Bounds.{after_close}
-use Rattle.machine_tests.proofs.watched.Watched.close_top.Goals as goal
-
-pub invariant_of-self : goal.invariant_of-self
-invariant_of-self g c =
-    let s = c.args.self.now in
-    let n = after_close (g.S.RegionStore.store s.store) (g.S.RegionStore.store c.close_top.new.self) _ c.close_top.ensures in
-    record { few = omega (arith, n.made, s.few); small = omega (arith, n.words_in, s.small) }

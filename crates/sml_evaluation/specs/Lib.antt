@@ -1,0 +1,11 @@
+pub mod ValueLayers
+pub mod Values
+pub mod RunState
+pub mod Outcome
+pub mod Mentioned
+pub mod BasisFunctions
+pub mod DataValues
+pub mod Primitives
+pub mod Evaluation
+pub mod PreludeText
+pub mod Page

@@ -1,5 +1,0 @@
-use Rattle.std.proofs.Common.{◌≡◌, take}
-use Rattle.sml_syntax.proofs.datum.+datum_copies.Given as goal
-
-abbrev pub invariant-copy_data-loop-datum : goal.invariant-copy_data-loop-datum
-invariant-copy_data-loop-datum l = l.copies.items ≡ take l.datum-index l.datum-items

@@ -1,0 +1,4 @@
+pub mod Scope
+pub mod StaticContexts
+pub mod Typing
+pub mod TypedPrograms
