@@ -34,27 +34,54 @@ impl Copies {
         out: &mut String,
     ) -> Result<(), NoMemory> {
         match word {
-            "copy_datum" => {
-                let datum = read_datum(alloc, words.next())?;
-                self.data.push(datum.try_copy(alloc)?)?;
-                show_equal(&self.data, &datum, out)
-            }
-            "copy_desc" => {
-                let desc = read_desc(alloc, words.next())?;
-                self.descs.push(desc.try_copy(alloc)?)?;
-                show_equal(&self.descs, &desc, out)
-            }
-            "copy_call" => {
-                let call = read_call(alloc, words)?;
-                self.calls.push(call.try_copy(alloc)?)?;
-                show_equal(&self.calls, &call, out)
-            }
-            _ => {
-                let answer = read_answer(alloc, words)?;
-                self.answers.push(answer.try_copy(alloc)?)?;
-                show_equal(&self.answers, &answer, out)
-            }
+            "copy_datum" => self.copy_datum(alloc, words.next(), out),
+            "copy_desc" => self.copy_desc(alloc, words.next(), out),
+            "copy_call" => self.copy_call(alloc, words, out),
+            _ => self.copy_answer(alloc, words, out),
         }
+    }
+
+    fn copy_datum(&mut self, alloc: Global, word: &str, out: &mut String) -> Result<(), NoMemory> {
+        let datum = read_datum(alloc, word)?;
+        self.data.push(datum.try_copy(alloc)?)?;
+        show_equal(&self.data, &datum, out)
+    }
+
+    fn copy_desc(&mut self, alloc: Global, word: &str, out: &mut String) -> Result<(), NoMemory> {
+        let desc = read_desc(alloc, word)?;
+        self.descs.push(desc.try_copy(alloc)?)?;
+        show_equal(&self.descs, &desc, out)
+    }
+
+    fn copy_call(
+        &mut self,
+        alloc: Global,
+        words: &mut Words,
+        out: &mut String,
+    ) -> Result<(), NoMemory> {
+        let call = read_call(alloc, words)?;
+        self.copied_call(alloc, &call, out)
+    }
+
+    fn copied_call(
+        &mut self,
+        alloc: Global,
+        call: &WebCall,
+        out: &mut String,
+    ) -> Result<(), NoMemory> {
+        self.calls.push(call.try_copy(alloc)?)?;
+        show_equal(&self.calls, call, out)
+    }
+
+    fn copy_answer(
+        &mut self,
+        alloc: Global,
+        words: &mut Words,
+        out: &mut String,
+    ) -> Result<(), NoMemory> {
+        let answer = read_answer(alloc, words)?;
+        self.answers.push(answer.try_copy(alloc)?)?;
+        show_equal(&self.answers, &answer, out)
     }
 }
 

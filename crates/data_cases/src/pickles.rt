@@ -4,7 +4,7 @@ use data_words::{read_answer, read_call, read_datum, read_desc, show_datum};
 use sml_syntax::NoMemory;
 use std::alloc::Global;
 use value_pickle::{PickleRefusal, answer_fits, fits, read, write};
-use web_data::{Datum, Desc};
+use web_data::{Datum, Desc, WebCall};
 
 /// `fits DESC DATUM`, `answers CALL => ANSWER`, `write DESC DATUM`, `read DESC HEX` and `two_bytes DESC`.
 pub(crate) fn answer_pickle(
@@ -29,16 +29,27 @@ pub(crate) fn answer_pickle(
 fn show_answer_fits(alloc: Global, words: &mut Words, out: &mut String) -> Result<(), NoMemory> {
     let call = read_call(alloc, words)?;
     words.next();
+    show_call_fits(alloc, &call, words, out)
+}
+
+fn show_call_fits(
+    alloc: Global,
+    call: &WebCall,
+    words: &mut Words,
+    out: &mut String,
+) -> Result<(), NoMemory> {
     let answer = read_answer(alloc, words)?;
-    let does_fit = answer_fits(&call, &answer);
-    write!(out, "{does_fit}")?;
+    show_bool(out, answer_fits(call, &answer))
+}
+
+fn show_bool(out: &mut String, value: bool) -> Result<(), NoMemory> {
+    out.push_str(if value { "true" } else { "false" })?;
     Ok(())
 }
 
 fn show_fits(alloc: Global, desc: &Desc, word: &str, out: &mut String) -> Result<(), NoMemory> {
-    let does_fit = fits(desc, &read_datum(alloc, word)?);
-    write!(out, "{does_fit}")?;
-    Ok(())
+    let datum = read_datum(alloc, word)?;
+    show_bool(out, fits(desc, &datum))
 }
 
 fn show_hex_read(alloc: Global, desc: &Desc, word: &str, out: &mut String) -> Result<(), NoMemory> {
@@ -68,14 +79,22 @@ fn show_datum_written(
 // The datum, and a mark where it isn't written as the same bytes.
 fn show_read(alloc: Global, desc: &Desc, bytes: &[u8], out: &mut String) -> Result<(), NoMemory> {
     match read(alloc, desc, bytes) {
-        Ok(datum) => {
-            show_datum(out, &datum)?;
-            if !fits(desc, &datum) || write(alloc, desc, &datum)?.as_bytes() != bytes {
-                out.push_str(" and other bytes")?;
-            }
-        }
-        Err(PickleRefusal::NotAPickle(place)) => write!(out, "NotAPickle {place}")?,
-        Err(PickleRefusal::NoMemory) => return Err(NoMemory),
+        Ok(datum) => show_datum_read(alloc, desc, &datum, bytes, out),
+        Err(PickleRefusal::NotAPickle(place)) => Ok(write!(out, "NotAPickle {place}")?),
+        Err(PickleRefusal::NoMemory) => Err(NoMemory),
+    }
+}
+
+fn show_datum_read(
+    alloc: Global,
+    desc: &Desc,
+    datum: &Datum,
+    bytes: &[u8],
+    out: &mut String,
+) -> Result<(), NoMemory> {
+    show_datum(out, datum)?;
+    if !fits(desc, datum) || write(alloc, desc, datum)?.as_bytes() != bytes {
+        out.push_str(" and other bytes")?;
     }
     Ok(())
 }
@@ -93,21 +112,38 @@ fn mixed_text(sum: u64, text: &str) -> u64 {
     all
 }
 
+// What reading strings came to.
+#[derive(Drop)]
+struct Tally {
+    pickles: u64,
+    // over all answers
+    sum: u64,
+}
+
+fn tally_read(alloc: Global, desc: &Desc, bytes: &[u8], tally: &mut Tally) -> Result<(), NoMemory> {
+    let mut answer = String::new(alloc);
+    show_read(alloc, desc, bytes, &mut answer)?;
+    if !answer.starts_with('N') {
+        tally.pickles = tally.pickles.wrapping_add(1);
+    }
+    tally.sum = mix(mixed_text(tally.sum, answer.as_str()), 10);
+    Ok(())
+}
+
+// Strings of this byte and one more.
+fn tally_behind(alloc: Global, desc: &Desc, first: u8, tally: &mut Tally) -> Result<(), NoMemory> {
+    for second in 0..=255 {
+        tally_read(alloc, desc, &[first, second], tally)?;
+    }
+    Ok(())
+}
+
 // How many strings of two bytes are pickles of the description, and a sum over the answers to all of them.
 fn show_all_two_bytes(alloc: Global, desc: &Desc, out: &mut String) -> Result<(), NoMemory> {
-    let mut pickles: u64 = 0;
-    let mut sum = 0;
+    let mut tally = Tally { pickles: 0, sum: 0 };
     for first in 0..=255 {
-        for second in 0..=255 {
-            let bytes = [first, second];
-            let mut answer = String::new(alloc);
-            show_read(alloc, desc, &bytes, &mut answer)?;
-            if !answer.starts_with('N') {
-                pickles = pickles.wrapping_add(1);
-            }
-            sum = mix(mixed_text(sum, answer.as_str()), 10);
-        }
+        tally_behind(alloc, desc, first, &mut tally)?;
     }
-    write!(out, "{pickles} {sum}")?;
+    write!(out, "{} {}", tally.pickles, tally.sum)?;
     Ok(())
 }
