@@ -6,19 +6,19 @@ use history_check::{Tables, is_legal, names_differ};
 use history_core::{Entry, Event};
 use sml_syntax::{Listed, NoMemory, Text};
 use std::alloc::Global;
-use web_data::{CacheAns, DbAns, WebAns};
+use web_data::{CacheAns, CacheCall, DbAns, DbCmd, WebAns, WebCall};
 
 // A table with its rows: its name, and then keys and values in turn, with commas between them.
 fn read_table(alloc: Global, word: &str) -> Result<(Text, Listed<(Text, Text)>), NoMemory> {
-    let mut rows = Vec::new(alloc);
     let (name, rest) = word.split_once(',').unwrap_or((word, ""));
-    let mut key = None;
+    let mut parts = Vec::new(alloc);
     for part in rest.split(',') {
-        if let Some(before) = key {
-            rows.push((before, read_text(alloc, part)?))?;
-            key = None;
-        } else {
-            key = Some(read_text(alloc, part)?);
+        parts.push(part)?;
+    }
+    let mut rows = Vec::new(alloc);
+    for pair in parts.chunks(2) {
+        if let [key, value] = pair {
+            rows.push((read_text(alloc, key)?, read_text(alloc, value)?))?;
         }
     }
     Ok((read_text(alloc, name)?, Listed::of(rows)))
@@ -74,27 +74,62 @@ fn read_event(alloc: Global, words: &mut Words) -> Result<Event, NoMemory> {
     let word = words.next();
     let request = words.number();
     match word {
-        "begin" => Ok(Event::Begin(request)),
-        "take_page" => Ok(Event::TakePage(request, words.next().parse().unwrap_or(0))),
-        "give_page" => Ok(Event::GivePage(request, words.next().parse().unwrap_or(0))),
-        "call" => {
-            let moment = words.number();
-            let call = read_cache_call(alloc, words)?;
-            words.next();
-            let answer = cache_answer(read_answer(alloc, words)?);
-            Ok(Event::CacheCall(request, call, moment, answer))
-        }
-        "take_handle" => Ok(Event::TakeHandle(request, words.number())),
-        "command" => {
-            let database = words.number();
-            let command = read_command(alloc, words)?;
-            words.next();
-            let answer = db_answer(read_answer(alloc, words)?);
-            Ok(Event::DbCall(request, database, command, answer))
-        }
-        "give_handle" => Ok(Event::GiveHandle(request, words.number())),
-        _ => Ok(Event::End(request)),
+        "call" => read_cache_event(alloc, request, words),
+        "command" => read_db_event(alloc, request, words),
+        word => Ok(plain_event(word, request, words.number())),
     }
+}
+
+// An event of a request and a number.
+fn plain_event(word: &str, request: u64, number: u64) -> Event {
+    match word {
+        "begin" => Event::Begin(request),
+        "take_page" => Event::TakePage(request, page_of(number)),
+        "give_page" => Event::GivePage(request, page_of(number)),
+        "take_handle" => Event::TakeHandle(request, number),
+        "give_handle" => Event::GiveHandle(request, number),
+        _ => Event::End(request),
+    }
+}
+
+fn page_of(number: u64) -> u32 {
+    u32::try_from(number).unwrap_or(0)
+}
+
+fn read_cache_event(alloc: Global, request: u64, words: &mut Words) -> Result<Event, NoMemory> {
+    let moment = words.number();
+    let call = read_cache_call(alloc, words)?;
+    words.next();
+    cache_event(alloc, request, moment, call, words)
+}
+
+fn cache_event(
+    alloc: Global,
+    request: u64,
+    moment: u64,
+    call: CacheCall,
+    words: &mut Words,
+) -> Result<Event, NoMemory> {
+    let answer = cache_answer(read_answer(alloc, words)?);
+    Ok(Event::CacheCall(request, call, moment, answer))
+}
+
+fn read_db_event(alloc: Global, request: u64, words: &mut Words) -> Result<Event, NoMemory> {
+    let database = words.number();
+    let command = read_command(alloc, words)?;
+    words.next();
+    db_event(alloc, request, database, command, words)
+}
+
+fn db_event(
+    alloc: Global,
+    request: u64,
+    database: u64,
+    command: DbCmd,
+    words: &mut Words,
+) -> Result<Event, NoMemory> {
+    let answer = db_answer(read_answer(alloc, words)?);
+    Ok(Event::DbCall(request, database, command, answer))
 }
 
 /// `event EVENT`: whether the machine has the step.
@@ -138,6 +173,23 @@ pub(crate) fn show_state(state: &CoreState, out: &mut String) -> Result<(), NoMe
     Ok(())
 }
 
+// The entry of a call, with the answer that the words tell.
+fn entry_of(
+    alloc: Global,
+    request: u64,
+    moment: u64,
+    call: WebCall,
+    words: &mut Words,
+) -> Result<Entry, NoMemory> {
+    let answer = read_answer(alloc, words)?;
+    Ok(Entry {
+        request,
+        call,
+        moment,
+        answer,
+    })
+}
+
 /// Entries so far, over the database `book` with its keepers.
 #[derive(Drop)]
 pub(crate) struct History {
@@ -167,25 +219,31 @@ impl History {
         let moment = words.number();
         let call = read_call(alloc, words)?;
         words.next();
-        let answer = read_answer(alloc, words)?;
-        self.entries.push(Entry {
-            request,
-            call,
-            moment,
-            answer,
-        })?;
-        let names = self.names.as_slice();
-        let is_legal_now = names_differ(names)
-            && is_legal(
-                alloc,
-                names,
-                self.keepers.as_slice(),
-                self.entries.as_slice(),
-            )?;
+        let entry = entry_of(alloc, request, moment, call, words)?;
+        self.add(entry)?;
+        let is_legal_now = self.is_legal_now(alloc)?;
         if !is_legal_now {
-            let _ = self.entries.pop();
+            self.remove();
         }
         write!(out, "{is_legal_now}")?;
         Ok(())
+    }
+
+    fn add(&mut self, entry: Entry) -> Result<(), NoMemory> {
+        self.entries.push(entry)?;
+        Ok(())
+    }
+
+    fn remove(&mut self) {
+        let _ = self.entries.pop();
+    }
+
+    fn is_legal_now(&self, alloc: Global) -> Result<bool, NoMemory> {
+        let names = self.names.as_slice();
+        if !names_differ(names) {
+            return Ok(false);
+        }
+        let keepers = self.keepers.as_slice();
+        is_legal(alloc, names, keepers, self.entries.as_slice())
     }
 }

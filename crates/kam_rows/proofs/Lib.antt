@@ -1,0 +1,3 @@
+mod Charged
+mod Stacked
+mod Refusals

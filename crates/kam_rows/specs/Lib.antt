@@ -1,0 +1,3 @@
+pub mod Charged
+pub mod Rows
+pub mod Stacked
