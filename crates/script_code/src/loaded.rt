@@ -1,4 +1,6 @@
 // A project's code.
+ghost use Rattle.std.specs.Prelude.{◌≡◌, ◌≤◌};
+
 use crate::refusal::CodeRefusal;
 use crate::scripts::script_code;
 use kam_code::Code;
