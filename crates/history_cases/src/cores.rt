@@ -6,7 +6,7 @@ use history_check::{Tables, is_legal, names_differ};
 use history_core::{Entry, Event};
 use sml_syntax::{Listed, NoMemory, Text};
 use std::alloc::Global;
-use web_data::{CacheAns, CacheCall, DbAns, DbCmd, WebAns, WebCall};
+use web_data::{CacheAns, DbAns, WebAns, WebCall};
 
 // A table with its rows: its name, and then keys and values in turn, with commas between them.
 fn read_table(alloc: Global, word: &str) -> Result<(Text, Listed<(Text, Text)>), NoMemory> {
@@ -96,40 +96,26 @@ fn page_of(number: u64) -> u32 {
     u32::try_from(number).unwrap_or(0)
 }
 
+// The answer comes before the call, as a call that has to go again is dear to check.
 fn read_cache_event(alloc: Global, request: u64, words: &mut Words) -> Result<Event, NoMemory> {
     let moment = words.number();
-    let call = read_cache_call(alloc, words)?;
-    words.next();
-    cache_event(alloc, request, moment, call, words)
-}
-
-fn cache_event(
-    alloc: Global,
-    request: u64,
-    moment: u64,
-    call: CacheCall,
-    words: &mut Words,
-) -> Result<Event, NoMemory> {
-    let answer = cache_answer(read_answer(alloc, words)?);
+    let (call, answer) = words.rest().split_once(" => ").unwrap_or(("", ""));
+    let answer = cache_answer(read_answer(alloc, &mut Words::of(answer))?);
+    let call = read_cache_call(alloc, &mut Words::of(call))?;
     Ok(Event::CacheCall(request, call, moment, answer))
 }
 
 fn read_db_event(alloc: Global, request: u64, words: &mut Words) -> Result<Event, NoMemory> {
     let database = words.number();
-    let command = read_command(alloc, words)?;
-    words.next();
-    db_event(alloc, request, database, command, words)
+    let (command, answer) = words.rest().split_once(" => ").unwrap_or(("", ""));
+    let answer = db_answer(read_answer(alloc, &mut Words::of(answer))?);
+    let command = read_command(alloc, &mut Words::of(command))?;
+    Ok(Event::DbCall(request, database, command, answer))
 }
 
-fn db_event(
-    alloc: Global,
-    request: u64,
-    database: u64,
-    command: DbCmd,
-    words: &mut Words,
-) -> Result<Event, NoMemory> {
-    let answer = db_answer(read_answer(alloc, words)?);
-    Ok(Event::DbCall(request, database, command, answer))
+// The step of the machine, without what is proved of it, which no line here needs.
+fn step(alloc: Global, state: &mut CoreState, event: &Event) -> Result<(), StepRefusal> {
+    core_step(alloc, state, event)
 }
 
 /// `event EVENT`: whether the machine has the step.
@@ -140,12 +126,34 @@ pub(crate) fn answer_event(
     out: &mut String,
 ) -> Result<(), NoMemory> {
     let event = read_event(alloc, words)?;
-    match core_step(alloc, state, &event) {
+    let stepped = step(alloc, state, &event);
+    let_go(event);
+    match stepped {
         Ok(()) => out.push_str("ok")?,
         Err(StepRefusal::NotEnabled) => out.push_str("not enabled")?,
         Err(StepRefusal::NoMemory) => return Err(NoMemory),
     }
     Ok(())
+}
+
+// Lets an event go part by part: as a whole that is dear to check.
+fn let_go(event: Event) {
+    match event {
+        Event::CacheCall(_, call, _, answer) => {
+            drop(call);
+            drop(answer);
+        }
+        Event::DbCall(_, _, command, answer) => {
+            drop(command);
+            drop(answer);
+        }
+        Event::Begin(_)
+        | Event::TakePage(_, _)
+        | Event::GivePage(_, _)
+        | Event::TakeHandle(_, _)
+        | Event::GiveHandle(_, _)
+        | Event::End(_) => {}
+    }
 }
 
 /// `state`: the number of entries, the pages that are free, those that are owned and by which requests, who holds the
