@@ -1,15 +1,12 @@
-//! Answers cases of histories: keepers behind a handle, the core machine event by event, and histories entry by entry.
+//! Answers cases of histories: the core machine event by event, and histories entry by entry.
 //! docs/TESTING.md tells their lines.
 #![tactic(auto)]
 
 mod cores;
-mod keepers;
 
 use case_lines::{Cases, Words, run_files};
 use core_step::CoreState;
 use cores::{History, answer_event, make_core, show_state};
-use db_pool::Handle;
-use keepers::{answer_keeper, make_handle};
 use sml_syntax::NoMemory;
 use std::alloc::{AllocError, Global};
 use std::io;
@@ -17,25 +14,11 @@ use std::io;
 /// What earlier lines made.
 #[derive(Drop)]
 struct Made {
-    handle: Option<Handle>,
     core: Option<CoreState>,
     history: Option<History>,
 }
 
 impl Made {
-    fn answer_keepers(
-        &mut self,
-        alloc: Global,
-        word: &str,
-        words: &mut Words,
-        out: &mut String,
-    ) -> Result<(), NoMemory> {
-        match &mut self.handle {
-            Some(handle) => answer_keeper(alloc, handle, word, words.rest(), out),
-            None => Ok(out.push_str("no handle")?),
-        }
-    }
-
     fn answer_core(
         &mut self,
         alloc: Global,
@@ -69,10 +52,6 @@ impl Made {
         let mut words = Words::of(line);
         let word = words.next();
         match word {
-            "handle" => {
-                self.handle = make_handle(alloc, &mut words)?;
-                Ok(out.push_str(word)?)
-            }
             "core" => {
                 self.core = make_core(alloc, &mut words)?;
                 Ok(out.push_str(word)?)
@@ -80,9 +59,6 @@ impl Made {
             "history" => {
                 self.history = Some(History::make(alloc, &mut words)?);
                 Ok(out.push_str(word)?)
-            }
-            "db" | "spares" | "replace" | "name" => {
-                self.answer_keepers(alloc, word, &mut words, out)
             }
             "event" | "state" => self.answer_core(alloc, word, &mut words, out),
             "entry" => self.answer_history(alloc, &mut words, out),
@@ -102,7 +78,6 @@ impl Cases for Made {
 
 fn main(rt: HostRuntime) -> io::Result<()> {
     let mut made = Made {
-        handle: None,
         core: None,
         history: None,
     };
